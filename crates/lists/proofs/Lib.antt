@@ -1,0 +1,4 @@
+pub mod All
+pub mod Rows
+pub mod Splice
+pub mod Tables

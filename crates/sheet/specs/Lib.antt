@@ -1,0 +1,6 @@
+pub mod Lines
+pub mod OwnPart
+pub mod Reachable
+pub mod Requests
+pub mod Sheet
+pub mod Shows

@@ -1,0 +1,41 @@
+// Traces: records of calls, the run of a trace with a budget of ticks, and its report.
+use registers::Crate;
+
+// Why a run ends. Of the refusals specs/Run.antt has the numbers.
+pub enum Stop {
+    End,
+    Spent,
+    Memory,
+    UnknownTag,
+    WrongLength,
+    Cut,
+    NoRepeat,
+}
+
+// What stands at an offset of a trace: nothing, a malformed record, or a record.
+pub enum Record {
+    AtEnd,
+    Malformed(Stop),
+    // a repeat, the levels of the inputs and of the gates
+    Ticks(u64, u64, u16),
+    // an address and a word
+    Write(u16, u16),
+    // an event tag
+    Tag(u32),
+}
+
+pub struct Report {
+    pub stop: Stop,
+    // the offset of the next record
+    pub next: usize,
+    pub ticks: u64,
+    pub records: usize,
+    pub refused: usize,
+}
+
+// A run on its way: the crate and the report so far, and whether the run goes on.
+pub struct Progress {
+    pub state: Crate,
+    pub report: Report,
+    pub going: bool,
+}

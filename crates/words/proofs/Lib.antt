@@ -1,0 +1,4 @@
+pub mod Complement
+pub mod Fields
+pub mod Packing
+pub mod Tests

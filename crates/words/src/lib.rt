@@ -1,0 +1,1 @@
+// Bits, fields and signed numbers in words: definitions and their laws.
