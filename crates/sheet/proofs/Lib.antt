@@ -1,0 +1,10 @@
+pub mod Fed
+pub mod Finishes
+pub mod InRange
+pub mod Isolation
+pub mod Kept
+pub mod OwnTag
+pub mod Projection
+pub mod Reached
+pub mod Squares
+pub mod Theorems

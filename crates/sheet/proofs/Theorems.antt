@@ -1,0 +1,83 @@
+-- The theorems about lists of calls, with their full statements. Each is proved by the file that it cites.
+use Prim.Native.Nat.{ℕ, _+_, _*_, _≤_, _<_}
+use native.Mathlib.Nat.{zero-add}
+use mathlib.Core.Bool.{false}
+use mathlib.Core.List.{List, _++_}
+use mathlib.Core.Option.{some}
+use mathlib.Core.Path.{_≡_, _∙_}
+use lib.ListN.{length}
+use Rattle.core.specs.declared.loader.Request.{Request}
+use Rattle.registers.specs.Answer.{isDone}
+use Rattle.registers.specs.Calls.{Call, acceptedTicks, after, answer, from, leftByRefusal, refusals, step}
+use Rattle.registers.specs.State.{Machine}
+use Rattle.registers.proofs.Refused as refusing
+use Rattle.trace.specs.Passed.{callsIn, passedIn}
+use Rattle.trace.specs.Run.{machineOf, runOf}
+use Rattle.trace.proofs.Listed as listing
+use Rattle.sheet.specs.Lines.{Lines, ownLines}
+use Rattle.sheet.specs.OwnPart.{ownPart, ownPartOf}
+use Rattle.sheet.specs.Reachable.{OfWords, Reached}
+use Rattle.sheet.specs.Requests.{Stands, finished, requestMade, standAfter, waits}
+use Rattle.sheet.specs.Sheet.{sheetAfter, sheetShows}
+use Rattle.sheet.specs.Shows.{shows}
+use Rattle.sheet.proofs.Finishes as finishing
+use Rattle.sheet.proofs.Isolation as isolating
+use Rattle.sheet.proofs.Isolation.{Cut}
+use Rattle.sheet.proofs.Kept.{Holds}
+use Rattle.sheet.proofs.Reached as reaching
+
+-- Demand 3: after every list of calls, counter c shows in the crate what its one-counter sheet shows, fed with c's own part alone.
+pub isolation : (c : ℕ) → c < 128 → (l : List Call) → shows c (after l) ≡ sheetShows (sheetAfter c (ownPartOf c l))
+isolation = isolating.isolation
+
+-- The same with every set S of lines that has c's own lines in it: so it holds at every prefix, with the lines of the whole list.
+pub isolation-within : (S : Lines) (c : ℕ) → c < 128 → (l : List Call) → Holds S (ownLines c l) →
+    shows c (after l) ≡ sheetShows (sheetAfter c (ownPart S c l))
+isolation-within = isolating.isolation-in
+
+-- Two lists with the same own part for c: wherever the one is cut, the other has a cut with the same own part before it, and c shows the
+-- same there, whatever else either list does.
+pub alike : (c : ℕ) → c < 128 → (l m : List Call) → ownPartOf c l ≡ ownPartOf c m → (l₁ l₂ : List Call) → l ≡ l₁ ++ l₂ →
+    (k : Cut (ownLines c m) c m (ownPart (ownLines c l) c l₁)) × (shows c (after l₁) ≡ shows c (after (k .first)))
+alike = isolating.alike
+
+-- And at every two cuts before which the own part is the same.
+pub alike-cut : (c : ℕ) → c < 128 → (l₁ l₂ m₁ m₂ : List Call) →
+    ownPart (ownLines c (l₁ ++ l₂)) c l₁ ≡ ownPart (ownLines c (m₁ ++ m₂)) c m₁ → shows c (after l₁) ≡ shows c (after m₁)
+alike-cut = isolating.alike-cut
+
+-- A request that call x makes after the list l, with k waiting ahead of it, is finished after every list with 128 + 129 × (k + 1) accepted
+-- ticks, whatever else is in that list.
+pub finishes : (l : List Call) (x : Call) (r : Request) → requestMade (after l) x ≡ some r →
+    (more : List Call) → 128 + 129 * (after l .state .common .queue .waiting + 1) ≤ acceptedTicks more →
+    standAfter (step (after l) x) more (waits (after l .state .common .queue .waiting)) ≡ finished
+finishes = finishing.finishes
+
+-- Until then it stands where `standAfter` says: in its place of the queue, never lost, doubled or overtaken, or in the loader.
+pub stands : (l : List Call) (x : Call) (r : Request) → requestMade (after l) x ≡ some r → (more : List Call) →
+    Stands (from (step (after l) x) more .state .common) r
+    (standAfter (step (after l) x) more (waits (after l .state .common .queue .waiting)))
+stands = finishing.stands
+
+-- After every list from power-up whose downloads are of 16-bit words: all numbers in their ranges, unused bits 0, counts 0 while RESET is set.
+pub reachable : (l : List Call) → OfWords l → Reached (after l)
+reachable = reaching.reachable
+
+-- A refused call leaves what 01's table says, for every machine and every call: all; a tag all but 0x0900 to 0x0902.
+pub refused : (m : Machine) (x : Call) → isDone (answer m x) ≡ false → step m x ≡ leftByRefusal m x
+refused = refusing.refused
+
+-- A trace run stands for the calls of the records that it passes: it leaves the crate and memory that they leave, and its records, ticks and
+-- refusals are the counts over them.
+module _ (t : List ℕ) (budget : ℕ) (m : Machine) where
+  pub run-is-list : machineOf (runOf t budget m) ≡ from m (callsIn (passedIn t budget m))
+  run-is-list = listing.run-is-list t budget m .state
+
+  pub run-records : runOf t budget m .progress .report .records ≡ length (passedIn t budget m)
+  run-records = listing.run-is-list t budget m .records ∙ zero-add (length (passedIn t budget m))
+
+  pub run-ticks : runOf t budget m .progress .report .ticks ≡ acceptedTicks (callsIn (passedIn t budget m))
+  run-ticks = listing.run-is-list t budget m .ticks ∙ zero-add (acceptedTicks (callsIn (passedIn t budget m)))
+
+  pub run-refusals : runOf t budget m .progress .report .refused ≡ refusals m (callsIn (passedIn t budget m))
+  run-refusals = listing.run-is-list t budget m .refused ∙ zero-add (refusals m (callsIn (passedIn t budget m)))
