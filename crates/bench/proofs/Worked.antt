@@ -9,11 +9,11 @@ use lib.ListN.{replicate, getD}
 use Rattle.words.specs.Signed.{wordOf}
 use Rattle.words.specs.Word.{bitOf}
 use Rattle.lists.specs.Checks.{Row, row}
-use Rattle.core.specs.declared.gate.Gate.{Gate}
-use Rattle.core.specs.declared.gate.GateState.{GateState}
-use Rattle.core.specs.declared.gate.GateState.the-variants.{Idle, Prepare, Open, Waiting, Error, Recover, Direct}
-use Rattle.core.specs.Counter.{counter0, counterStep, withCount}
-use Rattle.core.specs.Gate.{gateStep, stateNumber}
+use Rattle.gates.specs.declared.gate.Gate.{Gate}
+use Rattle.gates.specs.declared.gate.GateState.{GateState}
+use Rattle.gates.specs.declared.gate.GateState.the-variants.{Idle, Prepare, Open, Waiting, Error, Recover, Direct}
+use Rattle.counters.specs.Counter.{counter0, counterStep, withCount}
+use Rattle.gates.specs.Gate.{gateStep, stateNumber}
 use Rattle.registers.specs.declared.map.Register.{Register}
 use Rattle.registers.specs.Answer.{numberOf}
 use Rattle.registers.specs.Calls.{Call, tick, write, tag, download, answer, after, step, machine0, powered, poweredMemory}

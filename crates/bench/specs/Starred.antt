@@ -5,7 +5,7 @@ use lib.IntN.{pos}
 use lib.ListN.{replicate}
 use Rattle.words.specs.Signed.{wordOf}
 use Rattle.lists.specs.Checks.{Row, row}
-use Rattle.core.specs.Counter.{counter0, counterStep, withCount}
+use Rattle.counters.specs.Counter.{counter0, counterStep, withCount}
 use Rattle.registers.specs.Calls.{Call, tick, write, download}
 use Rattle.registers.proofs.Cases.{reads, readsBit, answers, often, pulses, counting, triggered, asked, askedOften}
 

@@ -4,27 +4,27 @@ use mathlib.Core.List.{List}
 use Rattle.words.specs.Word.{bit, nibble, fields, fieldsFrom, pack, maskedBits}
 use Rattle.lists.specs.Checks.{Row, right}
 use Rattle.lists.specs.Table.{tableFrom, tabulate, each, any}
-use Rattle.core.specs.Counter.{cleared, counterStep, counterTick, tickCounters, clearCounters, counterAt, overflowWord}
-use Rattle.core.specs.Gate.{gateStep, withTimeout, withMode, withPrepare, withRecover, withPreparePulse, withRecoverPulse, eachGate, gateAt, gateBits, outputsOf}
-use Rattle.core.specs.Lines.{stepPhases, riseOf, risesOf}
-use Rattle.core.specs.Loader.{pushed, oldest, shifted, dropped, loaderStep, queueStep, groupAt, loadInto}
-use Rattle.core.specs.Memory.{wordAt, loaded, replaced}
-use Rattle.core.specs.Watchdog.{watchdogStep, stepWatchdogs, withReset, resetWatchdogs, watchdogAt, watchdogWord}
+use Rattle.counters.specs.Counter.{counterStep, counterTick, tickCounters, clearCounters, counterAt, overflowWord}
+use Rattle.gates.specs.Gate.{gateStep, eachGate, gateAt, gateBits, outputsOf, stateWord}
+use Rattle.lines.specs.Lines.{stepPhases, riseOf, risesOf}
+use Rattle.loader.specs.Loader.{pushed, oldest, shifted, dropped, loaderStep, queueStep, groupAt, loadInto}
+use Rattle.loader.specs.Memory.{wordAt, loaded, replaced}
+use Rattle.watchdogs.specs.Watchdog.{watchdogStep, stepWatchdogs, withReset, resetIn, resetWatchdogs, watchdogAt, watchdogWord}
 use Rattle.registers.specs.Calls.{downloadAnswer, callAnswer, called, answer, step, powered, poweredMemory, from, after}
-use Rattle.registers.specs.Interlock.{signals, selection, trips, interlocks}
+use Rattle.registers.specs.Interlock.{signals, tripsBy, trips, interlocks}
 use Rattle.registers.specs.Map.{backplaneMap, statusMap, controlMap, eventMap, counterMap, decodeOf, kept}
-use Rattle.registers.specs.Read.{moduleWord, stateWord, statusWord, settingWord, wordIn, readOf}
+use Rattle.registers.specs.Read.{moduleWord, statusWord, settingWord, wordIn, readOf}
 use Rattle.registers.specs.State.{powerUp, memory0}
 use Rattle.registers.specs.Tag.{tagRequest, commanded, tagOf, tagAnswer}
 use Rattle.registers.specs.Tick.{badLevels, commonTick, restTick, tickOf}
 use Rattle.registers.specs.Write.{requestAnswer, requested, reloadAnswer, reloadWrite, controlWrite, keyWrite, enableWrite, restWrite, writeAnswer, resetBy, writeAt}
 
 unfoldable pub computing : List Row → Bool
-unfolding bit nibble fields fieldsFrom pack maskedBits tableFrom tabulate each any cleared counterStep counterTick tickCounters
-    clearCounters counterAt overflowWord gateStep withTimeout withMode withPrepare withRecover withPreparePulse withRecoverPulse eachGate
+unfolding bit nibble fields fieldsFrom pack maskedBits tableFrom tabulate each any counterStep counterTick tickCounters
+    clearCounters counterAt overflowWord gateStep eachGate
     gateAt gateBits outputsOf stepPhases riseOf risesOf pushed oldest shifted dropped loaderStep queueStep groupAt loadInto wordAt loaded
-    replaced watchdogStep stepWatchdogs withReset resetWatchdogs watchdogAt watchdogWord downloadAnswer callAnswer called answer step
-    powered poweredMemory from after signals selection trips interlocks backplaneMap statusMap controlMap eventMap counterMap decodeOf kept moduleWord stateWord statusWord settingWord wordIn
+    replaced watchdogStep stepWatchdogs withReset resetIn resetWatchdogs watchdogAt watchdogWord downloadAnswer callAnswer called answer step
+    powered poweredMemory from after signals tripsBy trips interlocks backplaneMap statusMap controlMap eventMap counterMap decodeOf kept moduleWord stateWord statusWord settingWord wordIn
     readOf powerUp memory0 tagRequest commanded tagOf tagAnswer badLevels commonTick restTick tickOf requestAnswer requested reloadAnswer
     reloadWrite controlWrite keyWrite enableWrite restWrite writeAnswer resetBy writeAt
 computing rows = right rows

@@ -8,9 +8,9 @@ use borrow.Author.Tests.{eq-eqb, le-ltb, lt-ltb}
 use lib.ListN.{length}
 use Rattle.words.specs.Word.{bit}
 use Rattle.words.proofs.Packing.{bit-pack}
-use Rattle.core.specs.declared.counter.Counter.{Counter}
-use Rattle.core.specs.Counter.{counterAt, isOver, isUnder, overflowWord}
-use Rattle.core.specs.Memory.{memoryWords}
+use Rattle.counters.specs.declared.counter.Counter.{Counter}
+use Rattle.counters.specs.Counter.{counterAt, isOver, isUnder, overflowWord}
+use Rattle.loader.specs.Memory.{memoryWords}
 use Rattle.registers.specs.declared.map.Register.the-variants.{Readout}
 use Rattle.registers.specs.declared.map.Status.the-variants.{Negative, Positive}
 use Rattle.registers.specs.Map.{decodeOf, statusMap}

@@ -7,7 +7,7 @@ use Rattle.words.proofs.Tests.{cases}
 use Rattle.registers.specs.declared.map.Register.{Register}
 use Rattle.registers.specs.declared.map.Register.the-variants.{Nothing, Readout, Other, Control, Mode, Timeout, Key, Enable, Reload, Prepare, Recover, Input, Group, Word}
 use Rattle.registers.specs.Answer.{isDone}
-use Rattle.core.specs.Memory.{isWhole}
+use Rattle.loader.specs.Memory.{isWhole}
 use Rattle.registers.specs.Calls.{Call, tick, write, tag, download, answer, callAnswer, called, leftByRefusal, step}
 use Rattle.registers.specs.Map.{decodeOf}
 use Rattle.registers.specs.State.{Machine, withState}

@@ -9,11 +9,11 @@ use lib.Dec.{eqb, ltb}
 use lib.ListN.{length, length-set}
 use Rattle.words.proofs.Tests.{both, cases, pick-elim}
 use Rattle.lists.proofs.Splice.{length-spliced}
-use Rattle.core.specs.Memory.{replaced}
+use Rattle.loader.specs.Memory.{replaced}
 use Rattle.registers.specs.declared.map.Register.{Register}
 use Rattle.registers.specs.declared.map.Register.the-variants.{Nothing, Readout, Other, Control, Mode, Timeout, Key, Enable, Reload, Prepare, Recover, Input, Group, Word}
 use Rattle.registers.specs.Answer.{isDone}
-use Rattle.core.specs.Memory.{isWhole}
+use Rattle.loader.specs.Memory.{isWhole}
 use Rattle.registers.specs.Calls.{Call, tick, write, tag, download, called, downloadAnswer, step}
 use Rattle.registers.specs.Map.{decodeOf}
 use Rattle.registers.specs.State.{Machine}

@@ -6,8 +6,8 @@ use lib.Dec.{eqb}
 use lib.ListN.{length}
 use Rattle.words.specs.Pick.{pick}
 use Rattle.words.specs.Word.{bitOf}
-use Rattle.core.specs.Loader.{isBeyond}
-use Rattle.core.specs.Memory.{datasetWords, isWhole, replaced}
+use Rattle.loader.specs.Loader.{isBeyond}
+use Rattle.loader.specs.Memory.{datasetWords, isWhole, replaced}
 use Rattle.registers.specs.declared.answer.Answer.{Answer}
 use Rattle.registers.specs.declared.answer.Answer.the-variants.{Done, Memory, Dataset, Level, Length}
 use Rattle.registers.specs.declared.answer.Outcome.{Outcome}

@@ -1,21 +1,18 @@
 -- Document 01, "Watchdogs and interlocks", and the Manual's Tables 3.26 to 3.29: the six outputs.
 use Prim.Native.Nat.{ℕ, _-_}
 use mathlib.Core.Bool.{Bool, not, _&&_}
+use mathlib.Core.List.{List}
 use lib.Dec.{ltb}
 use lib.ListN.{getD}
 use Rattle.words.specs.Pick.{pick}
 use Rattle.words.specs.Word.{bit, pack}
-use Rattle.lists.specs.Table.{any}
-use Rattle.core.specs.declared.gate.Gate.{Gate}
-use Rattle.core.specs.Counter.{isOver, isUnder, overflowWord}
-use Rattle.core.specs.Gate.{gateBits, isError}
-use Rattle.core.specs.Lines.{gateCount}
-use Rattle.core.specs.Watchdog.{errorOf, watchdogWord}
+use Rattle.lists.specs.Table.{any, tabulate}
+use Rattle.counters.specs.Counter.{isOver, isUnder, overflowWord}
+use Rattle.gates.specs.Gate.{failed, gateBits}
+use Rattle.lines.specs.Lines.{gateCount}
+use Rattle.watchdogs.specs.Watchdog.{errorOf, watchdogWord}
 use Rattle.registers.specs.declared.state.Crate.{Crate}
 use Rattle.registers.specs.Map.{outputWords, selectionNumber}
-
-abbrev pub failed : Gate → Bool
-failed g = isError (g .state)
 
 -- gate inputs that are low: "Signals from gate inputs are pre-inverted"
 abbrev pub lowGates : Crate → ℕ
@@ -30,17 +27,16 @@ signals s k =
     (pick (ltb k 17) (gateBits failed (s .gates))
     (pick (ltb k 21) (watchdogWord errorOf (s .rest .watchdogs) (k - 17)) (lowGates s))))
 
--- selection word k of output o
-unfoldable pub selection : Crate → ℕ → ℕ → ℕ
-selection s o k = getD (s .rest .selections) (selectionNumber o k) 0
-
 -- some signal is selected and present
 abbrev pub meets : ℕ → ℕ → Bool
 meets selected present = any 16 (λ b. bit selected b && bit present b)
 
 -- whether the first n selection words of output o, in address order, find one
+unfoldable pub tripsBy : List ℕ → List ℕ → ℕ → ℕ → Bool
+tripsBy selections present o n = any n (λ k. meets (getD selections (selectionNumber o k) 0) (getD present k 0))
+
 unfoldable pub trips : Crate → ℕ → ℕ → Bool
-trips s o n = any n (λ k. meets (selection s o k) (signals s k))
+trips s o n = tripsBy (s .rest .selections) (tabulate outputWords (signals s)) o n
 
 -- "Interlock o is 1 exactly when no selected overflow, gate error, watchdog error or low forwarded gate input exists."
 abbrev pub interlock : Crate → ℕ → Bool

@@ -1,19 +1,16 @@
 -- Document 01, "Writes and event tags", and the Manual's register tables: the word that a read gives.
 use Prim.Native.Nat.{ℕ, _+_, _*_, _/_, _%_}
-use mathlib.Core.Bool.{Bool}
-use mathlib.Core.List.{List}
 use lib.Dec.{eqb, ltb}
 use lib.IntN.{ℤ}
 use lib.ListN.{getD}
 use Rattle.words.specs.Pick.{pick}
 use Rattle.words.specs.Signed.{lowWord, highWord}
 use Rattle.words.specs.Word.{fields}
-use Rattle.core.specs.declared.counter.Counter.{Counter}
-use Rattle.core.specs.declared.gate.Gate.{Gate}
-use Rattle.core.specs.Counter.{counterAt, isOver, isUnder, overflowWord}
-use Rattle.core.specs.Gate.{gateAt, gateBits, outputsOf, stateNumber}
-use Rattle.core.specs.Memory.{isWhole, wordAt}
-use Rattle.core.specs.Watchdog.{errorOf, resetOf, watchdogWord}
+use Rattle.counters.specs.declared.counter.Counter.{Counter}
+use Rattle.counters.specs.Counter.{counterAt, isOver, isUnder, overflowWord}
+use Rattle.gates.specs.Gate.{failed, gateAt, gateBits, mode, outputsOf, prepare, recover, stateWord}
+use Rattle.loader.specs.Memory.{isWhole, wordAt}
+use Rattle.watchdogs.specs.Watchdog.{errorOf, resetOf, watchdogWord}
 use Rattle.registers.specs.declared.answer.Answer.{Answer}
 use Rattle.registers.specs.declared.answer.Answer.the-variants.{Done, Memory, Address}
 use Rattle.registers.specs.declared.answer.Read.{Read}
@@ -25,7 +22,7 @@ use Rattle.registers.specs.declared.map.Status.{Status}
 use Rattle.registers.specs.declared.map.Status.the-variants.{Module, Negative, Positive, GateErrors, WatchdogErrors, GateInputs, GateOutputs, Outputs}
 use Rattle.registers.specs.declared.map.Status.the-variants.{GateStates, TagLow, TagHigh, Code, LoaderState, LoaderCounter, Count, Threshold}
 use Rattle.registers.specs.declared.state.Crate.{Crate}
-use Rattle.registers.specs.Interlock.{failed, interlocks}
+use Rattle.registers.specs.Interlock.{interlocks}
 use Rattle.registers.specs.Map.{decodeOf}
 use Rattle.registers.specs.State.{Machine}
 
@@ -35,10 +32,6 @@ moduleID slot = pick (ltb slot 9) 0x07 (pick (ltb slot 11) 0x03 0x06)
 
 unfoldable pub moduleWord : ℕ → ℕ
 moduleWord k = fields 8 2 (λ j. moduleID (2 * k + j))
-
--- gates 4 k to 4 k + 3, four bits each: the Manual's Table 3.12
-unfoldable pub stateWord : List Gate → ℕ → ℕ
-stateWord gates k = fields 4 4 (λ j. stateNumber (gateAt gates (4 * k + j) .state))
 
 -- the Manual's Tables 3.31 and 3.35: LOW before HIGH
 abbrev pub halfOf : ℕ → ℤ → ℕ
@@ -71,15 +64,6 @@ settingWord s (Mask k) = getD (s .rest .masks) k 0
 settingWord s WatchdogTimeout = s .rest .timeout
 settingWord s (WatchdogReset k) = watchdogWord resetOf (s .rest .watchdogs) k
 settingWord s (Selection j) = getD (s .rest .selections) j 0
-
-abbrev pub mode : Gate → Bool
-mode g = g .mode
-
-abbrev pub prepare : Gate → Bool
-prepare g = g .prepare
-
-abbrev pub recover : Gate → Bool
-recover g = g .recover
 
 unfoldable pub wordIn : Machine → Register → ℕ
 wordIn m Nothing = 0

@@ -2,17 +2,17 @@
 use Prim.Native.Nat.{ℕ}
 use mathlib.Core.List.{List}
 use Rattle.lists.specs.Table.{tabulate}
-use Rattle.core.specs.declared.counter.Counter.{Counter}
-use Rattle.core.specs.declared.gate.Gate.{Gate}
-use Rattle.core.specs.declared.loader.Loader.{Loader}
-use Rattle.core.specs.declared.loader.Queue.{Queue}
-use Rattle.core.specs.declared.watchdog.Watchdog.{Watchdog}
-use Rattle.core.specs.Counter.{counter0, counterCount}
-use Rattle.core.specs.Gate.{gate0}
-use Rattle.core.specs.Lines.{gateCount, inputCount}
-use Rattle.core.specs.Loader.{loader0, queue0}
-use Rattle.core.specs.Memory.{memoryWords}
-use Rattle.core.specs.Watchdog.{watchdog0}
+use Rattle.counters.specs.declared.counter.Counter.{Counter}
+use Rattle.gates.specs.declared.gate.Gate.{Gate}
+use Rattle.loader.specs.declared.loader.Loader.{Loader}
+use Rattle.loader.specs.declared.loader.Queue.{Queue}
+use Rattle.watchdogs.specs.declared.watchdog.Watchdog.{Watchdog}
+use Rattle.counters.specs.Counter.{counter0, counterCount}
+use Rattle.gates.specs.Gate.{gate0}
+use Rattle.lines.specs.Lines.{gateCount, inputCount}
+use Rattle.loader.specs.Loader.{loader0, queue0}
+use Rattle.loader.specs.Memory.{memoryWords}
+use Rattle.watchdogs.specs.Watchdog.{watchdog0}
 use Rattle.registers.specs.declared.state.Common.{Common}
 use Rattle.registers.specs.declared.state.Crate.{Crate}
 use Rattle.registers.specs.declared.state.Events.{Events}

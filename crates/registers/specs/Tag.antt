@@ -4,8 +4,8 @@ use mathlib.Core.Bool.{Bool}
 use lib.Dec.{eqb}
 use Rattle.words.specs.Pick.{pick}
 use Rattle.words.specs.Word.{bit, fieldOf}
-use Rattle.core.specs.Counter.{clearCounters}
-use Rattle.core.specs.Gate.{eachGate, withPreparePulse, withRecoverPulse}
+use Rattle.counters.specs.Counter.{clearCounters}
+use Rattle.gates.specs.Gate.{eachGate, withPreparePulse, withRecoverPulse}
 use Rattle.registers.specs.declared.answer.Answer.{Answer}
 use Rattle.registers.specs.declared.answer.Answer.the-variants.{Done}
 use Rattle.registers.specs.declared.state.Common.{Common}

@@ -4,13 +4,13 @@ use mathlib.Core.Bool.{Bool, _||_}
 use mathlib.Core.List.{List}
 use lib.Dec.{leb}
 use Rattle.words.specs.Pick.{pick}
-use Rattle.core.specs.declared.gate.Gate.{Gate}
-use Rattle.core.specs.declared.loader.Loader.{Loader}
-use Rattle.core.specs.Counter.{tickCounters}
-use Rattle.core.specs.Gate.{gateStep, eachGate, outputsOf}
-use Rattle.core.specs.Lines.{gateCount, inputCount, risesOf, stepPhases}
-use Rattle.core.specs.Loader.{loadInto, loaderStep, queueStep}
-use Rattle.core.specs.Watchdog.{stepWatchdogs}
+use Rattle.gates.specs.declared.gate.Gate.{Gate}
+use Rattle.loader.specs.declared.loader.Loader.{Loader}
+use Rattle.counters.specs.Counter.{tickCounters}
+use Rattle.gates.specs.Gate.{gateStep, eachGate, outputsOf}
+use Rattle.lines.specs.Lines.{gateCount, inputCount, risesOf, stepPhases}
+use Rattle.loader.specs.Loader.{loadInto, loaderStep, queueStep}
+use Rattle.watchdogs.specs.Watchdog.{stepWatchdogs}
 use Rattle.registers.specs.declared.state.Common.{Common}
 use Rattle.registers.specs.declared.state.Crate.{Crate}
 use Rattle.registers.specs.declared.state.Events.{Events}

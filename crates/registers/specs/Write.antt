@@ -5,13 +5,13 @@ use mathlib.Core.List.{List}
 use lib.ListN.{set}
 use Rattle.words.specs.Pick.{pick}
 use Rattle.words.specs.Word.{bit, fieldOf}
-use Rattle.core.specs.declared.counter.Counter.{Counter}
-use Rattle.core.specs.declared.gate.Gate.{Gate}
-use Rattle.core.specs.declared.loader.Queue.{Queue}
-use Rattle.core.specs.Counter.{clearCounters, counterAt, resetOn, withInput}
-use Rattle.core.specs.Gate.{eachGate, gateAt, withMode, withPrepare, withRecover, withTimeout}
-use Rattle.core.specs.Loader.{isBeyond, isFull, pushed, requestFor}
-use Rattle.core.specs.Watchdog.{resetWatchdogs}
+use Rattle.counters.specs.declared.counter.Counter.{Counter}
+use Rattle.gates.specs.declared.gate.Gate.{Gate}
+use Rattle.loader.specs.declared.loader.Queue.{Queue}
+use Rattle.counters.specs.Counter.{clearCounters, counterAt, resetOn, withInput}
+use Rattle.gates.specs.Gate.{eachGate, gateAt, withMode, withPrepare, withRecover, withTimeout}
+use Rattle.loader.specs.Loader.{isBeyond, isFull, pushed, requestFor}
+use Rattle.watchdogs.specs.Watchdog.{resetWatchdogs}
 use Rattle.registers.specs.declared.answer.Answer.{Answer}
 use Rattle.registers.specs.declared.answer.Answer.the-variants.{Done, Address, ReadOnly, Dataset, Full}
 use Rattle.registers.specs.declared.map.Register.{Register}

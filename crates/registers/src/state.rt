@@ -1,9 +1,9 @@
 // The crate's state: what each counter and gate has, what all counters share, and what no counter sees.
-use core::Counter;
-use core::Gate;
-use core::Loader;
-use core::Queue;
-use core::Watchdog;
+use counters::Counter;
+use gates::Gate;
+use loader::Loader;
+use loader::Queue;
+use watchdogs::Watchdog;
 
 pub struct Crate {
     pub counters: [Counter; 128],

@@ -13,10 +13,10 @@ use lib.Seq.{getD-set-same, getD-set-other}
 use Rattle.words.specs.Pick.{pick}
 use Rattle.words.proofs.Tests.{and-left, and-right, both, cases}
 use Rattle.lists.proofs.Tables.{getD-tabulate, length-tabulate}
-use Rattle.core.specs.declared.loader.Loader.{Loader}
-use Rattle.core.specs.declared.loader.Queue.{Queue}
-use Rattle.core.specs.declared.loader.Request.{Request}
-use Rattle.core.specs.Loader.{dropped, isEmpty, loaderStep, oldest, pushed, queueStep, request0, requestFor, shifted}
+use Rattle.loader.specs.declared.loader.Loader.{Loader}
+use Rattle.loader.specs.declared.loader.Queue.{Queue}
+use Rattle.loader.specs.declared.loader.Request.{Request}
+use Rattle.loader.specs.Loader.{dropped, isEmpty, loaderStep, oldest, pushed, queueStep, request0, requestFor, shifted}
 use Rattle.registers.specs.declared.map.Register.{Register}
 use Rattle.registers.specs.declared.map.Register.the-variants.{Nothing, Readout, Other, Control, Mode, Timeout, Key, Enable, Reload, Prepare, Recover, Input, Group, Word}
 use Rattle.registers.specs.declared.state.Common.{Common}

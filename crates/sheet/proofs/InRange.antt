@@ -14,18 +14,18 @@ use Rattle.words.proofs.Complement.{signed-lt, wrapped-lt}
 use Rattle.words.proofs.Tests.{both, cases, pick-elim}
 use Rattle.lists.proofs.All.{all-each, all-set, all-tabulate}
 use Rattle.lists.proofs.Tables.{length-tabulate}
-use Rattle.core.specs.declared.counter.Counter.{Counter}
-use Rattle.core.specs.declared.gate.Gate.{Gate}
-use Rattle.core.specs.declared.loader.Loader.{Loader}
-use Rattle.core.specs.declared.loader.Queue.{Queue}
-use Rattle.core.specs.declared.loader.Request.{Request}
-use Rattle.core.specs.declared.watchdog.Watchdog.{Watchdog}
-use Rattle.core.specs.Counter.{cleared, counted, counter0, counterAt, counterStep, counterTick, withCount, withInput}
-use Rattle.core.specs.Gate.{gateStep, inPrepare, nextState, timeoutUnit, timerOf}
-use Rattle.core.specs.Lines.{frequency, phaseLimit, phaseStep, phaseSum, stepPhases}
-use Rattle.core.specs.Loader.{dropped, groupAt, takes, isBeyond, isEmpty, isFull, loadInto, loaderStep, oldest, pushed, queueStep, request0, shifted}
-use Rattle.core.specs.Memory.{loaded, wordAt}
-use Rattle.core.specs.Watchdog.{watchdogStep, watchdogTop}
+use Rattle.counters.specs.declared.counter.Counter.{Counter}
+use Rattle.gates.specs.declared.gate.Gate.{Gate}
+use Rattle.loader.specs.declared.loader.Loader.{Loader}
+use Rattle.loader.specs.declared.loader.Queue.{Queue}
+use Rattle.loader.specs.declared.loader.Request.{Request}
+use Rattle.watchdogs.specs.declared.watchdog.Watchdog.{Watchdog}
+use Rattle.counters.specs.Counter.{cleared, counted, counter0, counterAt, counterStep, counterTick, withCount, withInput}
+use Rattle.gates.specs.Gate.{gateStep, inPrepare, nextState, timeoutUnit, timerOf}
+use Rattle.lines.specs.Lines.{frequency, phaseLimit, phaseStep, phaseSum, stepPhases}
+use Rattle.loader.specs.Loader.{dropped, groupAt, takes, isBeyond, isEmpty, isFull, loadInto, loaderStep, oldest, pushed, queueStep, request0, shifted}
+use Rattle.loader.specs.Memory.{loaded, wordAt}
+use Rattle.watchdogs.specs.Watchdog.{watchdogStep, watchdogTop}
 use Rattle.registers.specs.Answer.{isDone}
 use Rattle.registers.specs.Write.{requestAnswer}
 use Rattle.sheet.specs.Reachable.{CounterInRange, GateInRange, QueueInRange, RequestInRange}
@@ -39,7 +39,6 @@ pub input-in : (c : Counter) → CounterInRange c → (w : ℕ) → w < 2 ^ 16 �
 input-in c h w p = record { count = h .count; positive = h .positive; negative = h .negative; input = p }
 
 pub cleared-in : (c : Counter) → CounterInRange c → CounterInRange (cleared c)
-unfolding cleared
 cleared-in c h = count-in c h (pos 0) (lit< tt)
 
 counted-in : (z : ℤ) (up down : Bool) → mag z < 2 ^ 31 → mag (counted z up down) < 2 ^ 31

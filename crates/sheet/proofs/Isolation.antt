@@ -5,7 +5,7 @@ use mathlib.Core.Bool.{false≢true}
 use mathlib.Core.List.{List, [], _∷_, _++_}
 use mathlib.Core.Option.{Option, none, some}
 use mathlib.Core.Path.{_≡_, refl, sym, ap, _∙_}
-use Rattle.core.specs.Counter.{counterAt}
+use Rattle.counters.specs.Counter.{counterAt}
 use Rattle.registers.specs.Calls.{Call, after, from, machine0, step}
 use Rattle.registers.specs.State.{Machine}
 use Rattle.registers.proofs.Overflows.{over-bit, under-bit}

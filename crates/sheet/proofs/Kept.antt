@@ -10,20 +10,20 @@ use lib.ListN.{length, length-set}
 use Rattle.words.proofs.Tests.{both, cases, pick-elim}
 use Rattle.words.proofs.Fields.{field-low}
 use Rattle.lists.proofs.Tables.{length-each, length-tabulate}
-use Rattle.core.specs.declared.counter.Counter.{Counter}
-use Rattle.core.specs.declared.gate.Gate.{Gate}
-use Rattle.core.specs.declared.loader.Loader.{Loader}
-use Rattle.core.specs.Counter.{cleared, clearCounters, counter0, counterStep, counterTick, downOf, gateOf, input0, resetOn, tickCounters, upOf}
-use Rattle.core.specs.Loader.{groupAt, takes, loadInto}
-use Rattle.core.specs.Memory.{loaded}
-use Rattle.core.proofs.Gates.{length-eachGate}
+use Rattle.counters.specs.declared.counter.Counter.{Counter}
+use Rattle.gates.specs.declared.gate.Gate.{Gate}
+use Rattle.loader.specs.declared.loader.Loader.{Loader}
+use Rattle.counters.specs.Counter.{clearCounters, counter0, counterStep, counterTick, downOf, gateOf, input0, resetOn, tickCounters, upOf}
+use Rattle.loader.specs.Loader.{groupAt, takes, loadInto}
+use Rattle.loader.specs.Memory.{loaded}
+use Rattle.gates.proofs.Gates.{length-eachGate}
 use Rattle.registers.specs.declared.map.Register.{Register}
 use Rattle.registers.specs.declared.map.Register.the-variants.{Nothing, Readout, Other, Control, Mode, Timeout, Key, Enable, Reload, Prepare, Recover, Input, Group, Word}
 use Rattle.registers.specs.declared.state.Common.{Common}
 use Rattle.registers.specs.declared.state.Crate.{Crate}
 use Rattle.registers.specs.declared.state.Rest.{Rest}
 use Rattle.registers.specs.Answer.{isDone}
-use Rattle.core.specs.Memory.{isWhole}
+use Rattle.loader.specs.Memory.{isWhole}
 use Rattle.registers.specs.Calls.{Call, tick, write, tag, download, called, downloadAnswer, machine0, step}
 use Rattle.registers.specs.Map.{decodeOf, kept}
 use Rattle.registers.specs.State.{Machine, memory0, powerUp, withGroups, withMemory, withRest, withState}
@@ -201,7 +201,7 @@ module _ (S : Lines) (c : ℕ) (s : Sheet) (fit : Fits S (s .counter .input)) wh
   FitCounter x = Fits S (x .input)
 
   fits-step : (x : Counter) (hold clear opened up down : Bool) → FitCounter x → FitCounter (counterStep x hold clear opened up down)
-  unfolding counterStep cleared
+  unfolding counterStep
   fits-step x true clear opened up down f = f
   fits-step x false true true up down f = f
   fits-step x false true false up down f = f
@@ -219,7 +219,7 @@ module _ (S : Lines) (c : ℕ) (s : Sheet) (fit : Fits S (s .counter .input)) wh
   fits-ticked false inputs gates = fits-tick inputs gates
 
   fits-write : (r : Register) (w : ℕ) → Holds S (linesAt c r w) → Fit (sheetStepBy c s (ownAt S c r w))
-  unfolding ownAt sheetStep linesAt cleared
+  unfolding ownAt sheetStep linesAt
   fits-write Nothing w h = fit
   fits-write (Readout r) w h = fit
   fits-write (Other r) w h = fit
@@ -236,7 +236,7 @@ module _ (S : Lines) (c : ℕ) (s : Sheet) (fit : Fits S (s .counter .input)) wh
   fits-write (Word i) w h = cases (isOwnWord c i) (λ e. rw e fit) (λ e. rw e fit)
 
   fits-tag : (t : ℕ) → Fit (sheetTag s t)
-  unfolding sheetTag sheetCommand cleared
+  unfolding sheetTag sheetCommand
   fits-tag t =
       both Fit (eventsOn (s .common))
       (both Fit (rightKey (s .common) t)

@@ -13,8 +13,8 @@ use Rattle.words.proofs.Packing.{pack-lt}
 use Rattle.words.proofs.Tests.{pick-elim}
 use Rattle.lists.specs.Table.{each}
 use Rattle.lists.proofs.Tables.{tabulate-ext}
-use Rattle.core.specs.declared.gate.Gate.{Gate}
-use Rattle.core.specs.Gate.{eachGate, gate0}
+use Rattle.gates.specs.declared.gate.Gate.{Gate}
+use Rattle.gates.specs.Gate.{eachGate, gate0}
 use Rattle.registers.specs.Tag.{commandOf, keyOf}
 use Rattle.sheet.specs.Lines.{Lines}
 use Rattle.sheet.specs.OwnPart.{ownTag}

@@ -14,14 +14,14 @@ use Rattle.words.proofs.Packing.{bit-masked, bit-pack, masked-zero, nibble-zero
 use Rattle.words.proofs.Tests.{cases, pick-same}
 use Rattle.lists.specs.Table.{tabulate, each}
 use Rattle.lists.proofs.Tables.{getD-past, getD-set, getD-tabulate, set-tabulate, tabulate-ext}
-use Rattle.core.specs.declared.counter.Counter.{Counter}
-use Rattle.core.specs.declared.gate.Gate.{Gate}
-use Rattle.core.specs.Counter.{counter0, counterAt, counterTick, downOf, gateOf, upOf}
-use Rattle.core.specs.Gate.{eachGate, gate0, gateAt, output, outputsOf}
-use Rattle.core.specs.Lines.{riseOf, risesOf}
-use Rattle.core.specs.Loader.{groupAt}
-use Rattle.core.specs.Memory.{placeOf, wordAt}
-use Rattle.core.proofs.Gates.{gate-bit, gate-bit-past}
+use Rattle.counters.specs.declared.counter.Counter.{Counter}
+use Rattle.gates.specs.declared.gate.Gate.{Gate}
+use Rattle.counters.specs.Counter.{counter0, counterAt, counterTick, downOf, gateOf, upOf}
+use Rattle.gates.specs.Gate.{eachGate, gate0, gateAt, output, outputsOf}
+use Rattle.lines.specs.Lines.{riseOf, risesOf}
+use Rattle.loader.specs.Loader.{groupAt}
+use Rattle.loader.specs.Memory.{placeOf, wordAt}
+use Rattle.gates.proofs.Gates.{gate-bit, gate-bit-past}
 use Rattle.registers.specs.Calls.{machine0}
 use Rattle.registers.specs.State.{Machine, memory0, powerUp}
 use Rattle.sheet.specs.Lines.{Lines}

@@ -18,15 +18,15 @@ use Rattle.lists.specs.Table.{each}
 use Rattle.lists.proofs.All.{all-each, all-set, all-tabulate}
 use Rattle.lists.proofs.Splice.{getD-before, getD-behind, getD-inside}
 use Rattle.lists.proofs.Tables.{length-tabulate}
-use Rattle.core.specs.declared.counter.Counter.{Counter}
-use Rattle.core.specs.declared.gate.Gate.{Gate}
-use Rattle.core.specs.declared.watchdog.Watchdog.{Watchdog}
-use Rattle.core.specs.Counter.{clearCounters, cleared, counter0, counterAt, counterStep, counterTick, resetOn, tickCounters, withInput}
-use Rattle.core.specs.Gate.{eachGate, gate0, gateAt, gateStep, withMode, withPrepare, withPreparePulse, withRecover, withRecoverPulse, withTimeout}
-use Rattle.core.specs.Lines.{phaseLimit}
-use Rattle.core.specs.Loader.{request0}
-use Rattle.core.specs.Memory.{loaded, memoryWords, replaced, wordAt}
-use Rattle.core.specs.Watchdog.{resetWatchdogs, stepWatchdogs, watchdog0, watchdogAt, watchdogTop, withReset}
+use Rattle.counters.specs.declared.counter.Counter.{Counter}
+use Rattle.gates.specs.declared.gate.Gate.{Gate}
+use Rattle.watchdogs.specs.declared.watchdog.Watchdog.{Watchdog}
+use Rattle.counters.specs.Counter.{clearCounters, cleared, counter0, counterAt, counterStep, counterTick, resetOn, tickCounters, withInput}
+use Rattle.gates.specs.Gate.{eachGate, gate0, gateAt, gateStep, withMode, withPrepare, withPreparePulse, withRecover, withRecoverPulse, withTimeout}
+use Rattle.lines.specs.Lines.{phaseLimit}
+use Rattle.loader.specs.Loader.{request0}
+use Rattle.loader.specs.Memory.{loaded, memoryWords, replaced, wordAt}
+use Rattle.watchdogs.specs.Watchdog.{resetIn, resetWatchdogs, stepWatchdogs, watchdog0, watchdogAt, watchdogTop, withReset}
 use Rattle.registers.specs.declared.map.Register.{Register}
 use Rattle.registers.specs.declared.map.Register.the-variants.{Nothing, Readout, Other, Control, Mode, Timeout, Key, Enable, Reload, Prepare, Recover, Input, Group, Word}
 use Rattle.registers.specs.declared.map.Setting.{Setting}
@@ -35,7 +35,7 @@ use Rattle.registers.specs.declared.state.Common.{Common}
 use Rattle.registers.specs.declared.state.Crate.{Crate}
 use Rattle.registers.specs.declared.state.Rest.{Rest}
 use Rattle.registers.specs.Answer.{isDone}
-use Rattle.core.specs.Memory.{isWhole}
+use Rattle.loader.specs.Memory.{isWhole}
 use Rattle.registers.specs.Calls.{Call, tick, write, tag, download, after, called, downloadAnswer, from, machine0, step}
 use Rattle.registers.specs.Map.{decodeOf, kept, usedBits}
 use Rattle.registers.specs.State.{Machine, common0, memory0, powerUp, withGroups, withMemory, withRegisters, withRest, withState}
@@ -66,28 +66,23 @@ gates-in f kept w gates h =
     all-each gate0 (λ i. GateInRange) (λ i. gate0-in) 12 _ gates (λ i g. kept (bit w i) g) h
 
 same-mode : (b : Bool) (g : Gate) → GateInRange g → GateInRange (withMode b g)
-unfolding withMode
 same-mode b g h = record { timer = h .timer; timeout = h .timeout }
 
 same-prepare : (b : Bool) (g : Gate) → GateInRange g → GateInRange (withPrepare b g)
-unfolding withPrepare
 same-prepare b g h = record { timer = h .timer; timeout = h .timeout }
 
 same-recover : (b : Bool) (g : Gate) → GateInRange g → GateInRange (withRecover b g)
-unfolding withRecover
 same-recover b g h = record { timer = h .timer; timeout = h .timeout }
 
 same-prepare-pulse : (b : Bool) (g : Gate) → GateInRange g → GateInRange (withPreparePulse b g)
-unfolding withPreparePulse
 same-prepare-pulse b g h = record { timer = h .timer; timeout = h .timeout }
 
 same-recover-pulse : (b : Bool) (g : Gate) → GateInRange g → GateInRange (withRecoverPulse b g)
-unfolding withRecoverPulse
 same-recover-pulse b g h = record { timer = h .timer; timeout = h .timeout }
 
 timeout-in : (gates : List Gate) → ((g : ℕ) → GateInRange (gateAt gates g)) → (k w : ℕ) →
     (g : ℕ) → GateInRange (gateAt (set gates k (withTimeout (kept (Timeout k) w) (gateAt gates k))) g)
-unfolding gateAt withTimeout
+unfolding gateAt
 timeout-in gates h k w =
     all-set gate0 (λ i. GateInRange) (λ i. gate0-in) gates k _
     (record { timer = h k .timer; timeout = kept-lt (Timeout k) w }) h
@@ -114,7 +109,6 @@ abbrev AtZero : Counter → Type 0
 AtZero c = c .count ≡ pos 0
 
 cleared-zero : (c : Counter) → AtZero (cleared c)
-unfolding cleared
 cleared-zero c = refl
 
 loaded-zero : (memory : List ℕ) (a : ℕ) (c : Counter) → AtZero c → AtZero (loaded memory a c)
@@ -127,7 +121,7 @@ held-zero control rises was is c e = rw e (cleared-zero c)
 
 all-cleared : (xs : List Counter) (n : ℕ) → AtZero (counterAt (clearCounters xs) n)
 unfolding counterAt clearCounters each
-all-cleared xs = all-tabulate counter0 (λ i. AtZero) (λ i. refl) 128 _ (λ i. cleared-zero _)
+all-cleared xs = all-tabulate counter0 (λ i. AtZero) (λ i. refl) 128 _ (λ i. refl)
 
 all-held : (control rises was is : ℕ) (xs : List Counter) → resetOn control ≡ true → (n : ℕ) → AtZero (counterAt (tickCounters control rises was is xs) n)
 unfolding counterAt tickCounters each
@@ -208,7 +202,7 @@ unfolding withReset
 reset-in b w h = let z : 0 ≤ watchdogTop = omega arith in both (λ (x : Watchdog). x .value ≤ watchdogTop) (w .reset && not b) z h
 
 rest-in : (r : Setting) (w : ℕ) (rest : Rest) → RestInRange rest → RestInRange (restWrite r w rest)
-unfolding restWrite resetWatchdogs
+unfolding restWrite resetWatchdogs resetIn
 rest-in (Mask k) w rest h = record {
   masks = all-set 0 (λ i n. n < 2 ^ usedBits (Other (Mask i))) (λ i. lit< tt) (rest .masks) k _ (kept-lt (Other (Mask k)) w) (h .masks);
   timeout = h .timeout;

@@ -14,13 +14,13 @@ use Rattle.words.proofs.Fields.{nibble-low}
 use Rattle.words.proofs.Tests.{agree, cases, pick-ap, pick-same}
 use Rattle.lists.proofs.Splice.{getD-before, getD-behind, getD-inside}
 use Rattle.lists.proofs.Tables.{getD-each, getD-set, getD-tabulate, length-each, set-tabulate, tabulate-ext}
-use Rattle.core.specs.declared.counter.Counter.{Counter}
-use Rattle.core.specs.declared.loader.Loader.{Loader}
-use Rattle.core.specs.Counter.{clearCounters, cleared, counter0, counterAt, counterTick, resetOn, tickCounters}
-use Rattle.core.specs.Gate.{eachGate, gate0, gateStep, outputsOf, withMode, withPrepare, withPreparePulse, withRecover, withRecoverPulse, withTimeout}
-use Rattle.core.specs.Lines.{risesOf}
-use Rattle.core.specs.Loader.{groupAt, takes, loadInto}
-use Rattle.core.specs.Memory.{loaded, placeOf, replaced, wordAt}
+use Rattle.counters.specs.declared.counter.Counter.{Counter}
+use Rattle.loader.specs.declared.loader.Loader.{Loader}
+use Rattle.counters.specs.Counter.{clearCounters, cleared, counter0, counterAt, counterTick, resetOn, tickCounters}
+use Rattle.gates.specs.Gate.{eachGate, gate0, gateStep, outputsOf, withMode, withPrepare, withPreparePulse, withRecover, withRecoverPulse, withTimeout}
+use Rattle.lines.specs.Lines.{risesOf}
+use Rattle.loader.specs.Loader.{groupAt, takes, loadInto}
+use Rattle.loader.specs.Memory.{loaded, placeOf, replaced, wordAt}
 use Rattle.registers.specs.declared.map.Register.{Register}
 use Rattle.registers.specs.declared.map.Register.the-variants.{Nothing, Readout, Other, Control, Mode, Timeout, Key, Enable, Reload, Prepare, Recover, Input, Group, Word}
 use Rattle.registers.specs.declared.state.Rest.{Rest}
@@ -47,23 +47,18 @@ unfolding gateStep
 idle-step = refl
 
 idle-mode : withMode false gate0 ≡ gate0
-unfolding withMode
 idle-mode = refl
 
 idle-prepare : withPrepare false gate0 ≡ gate0
-unfolding withPrepare
 idle-prepare = refl
 
 idle-recover : withRecover false gate0 ≡ gate0
-unfolding withRecover
 idle-recover = refl
 
 idle-prepare-pulse : withPreparePulse false gate0 ≡ gate0
-unfolding withPreparePulse
 idle-prepare-pulse = refl
 
 idle-recover-pulse : withRecoverPulse false gate0 ≡ gate0
-unfolding withRecoverPulse
 idle-recover-pulse = refl
 
 -- ---- a place of the memory taken apart and put together again

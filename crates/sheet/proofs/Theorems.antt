@@ -6,7 +6,7 @@ use mathlib.Core.List.{List, _++_}
 use mathlib.Core.Option.{some}
 use mathlib.Core.Path.{_≡_, _∙_}
 use lib.ListN.{length}
-use Rattle.core.specs.declared.loader.Request.{Request}
+use Rattle.loader.specs.declared.loader.Request.{Request}
 use Rattle.registers.specs.Answer.{isDone}
 use Rattle.registers.specs.Calls.{Call, acceptedTicks, after, answer, from, leftByRefusal, refusals, step}
 use Rattle.registers.specs.State.{Machine}

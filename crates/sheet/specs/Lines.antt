@@ -5,8 +5,8 @@ use mathlib.Core.Bool.{Bool, false, _&&_, _||_}
 use mathlib.Core.List.{List, [], _∷_}
 use lib.Dec.{eqb, ltb}
 use Rattle.words.specs.Pick.{pick}
-use Rattle.core.specs.Counter.{downOf, gateOf, upOf}
-use Rattle.core.specs.Lines.{gateCount, inputCount}
+use Rattle.counters.specs.Counter.{downOf, gateOf, upOf}
+use Rattle.lines.specs.Lines.{gateCount, inputCount}
 use Rattle.registers.specs.declared.map.Register.{Register}
 use Rattle.registers.specs.declared.map.Register.the-variants.{Nothing, Readout, Other, Control, Mode, Timeout, Key, Enable, Reload, Prepare, Recover, Input, Group, Word}
 use Rattle.registers.specs.Calls.{Call, tick, write, tag, download}

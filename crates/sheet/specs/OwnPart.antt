@@ -9,8 +9,8 @@ use lib.ListN.{getD, length}
 use Rattle.words.specs.Pick.{pick}
 use Rattle.words.specs.Word.{maskedBits, nibble}
 use Rattle.lists.specs.Table.{tabulate}
-use Rattle.core.specs.Lines.{gateCount, inputCount}
-use Rattle.core.specs.Memory.{datasetWords}
+use Rattle.lines.specs.Lines.{gateCount, inputCount}
+use Rattle.loader.specs.Memory.{datasetWords}
 use Rattle.registers.specs.declared.map.Register.{Register}
 use Rattle.registers.specs.declared.map.Register.the-variants.{Nothing, Readout, Other, Control, Mode, Timeout, Key, Enable, Reload, Prepare, Recover, Input, Group, Word}
 use Rattle.registers.specs.Calls.{Call, tick, write, tag, download}

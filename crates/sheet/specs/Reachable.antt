@@ -6,16 +6,16 @@ use mathlib.Core.Path.{_≡_}
 use lib.IntN.{pos}
 use lib.ListN.{getD, length}
 use lib.Signed.{mag}
-use Rattle.core.specs.declared.counter.Counter.{Counter}
-use Rattle.core.specs.declared.gate.Gate.{Gate}
-use Rattle.core.specs.declared.loader.Queue.{Queue}
-use Rattle.core.specs.declared.loader.Request.{Request}
-use Rattle.core.specs.Counter.{counterAt, resetOn}
-use Rattle.core.specs.Gate.{gateAt, timeoutUnit}
-use Rattle.core.specs.Lines.{gateCount, inputCount, phaseLimit}
-use Rattle.core.specs.Loader.{request0}
-use Rattle.core.specs.Memory.{memoryWords, wordAt}
-use Rattle.core.specs.Watchdog.{watchdogAt, watchdogTop}
+use Rattle.counters.specs.declared.counter.Counter.{Counter}
+use Rattle.gates.specs.declared.gate.Gate.{Gate}
+use Rattle.loader.specs.declared.loader.Queue.{Queue}
+use Rattle.loader.specs.declared.loader.Request.{Request}
+use Rattle.counters.specs.Counter.{counterAt, resetOn}
+use Rattle.gates.specs.Gate.{gateAt, timeoutUnit}
+use Rattle.lines.specs.Lines.{gateCount, inputCount, phaseLimit}
+use Rattle.loader.specs.Loader.{request0}
+use Rattle.loader.specs.Memory.{memoryWords, wordAt}
+use Rattle.watchdogs.specs.Watchdog.{watchdogAt, watchdogTop}
 use Rattle.registers.specs.declared.map.Register.the-variants.{Control, Enable, Key, Other, Reload}
 use Rattle.registers.specs.declared.map.Setting.the-variants.{Mask, Selection, WatchdogTimeout}
 use Rattle.registers.specs.declared.state.Common.{Common}

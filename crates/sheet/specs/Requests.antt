@@ -7,9 +7,9 @@ use mathlib.Core.Path.{_≡_}
 use lib.Dec.{eqb}
 use lib.ListN.{getD}
 use Rattle.words.specs.Pick.{pick}
-use Rattle.core.specs.declared.loader.Loader.{Loader}
-use Rattle.core.specs.declared.loader.Request.{Request}
-use Rattle.core.specs.Loader.{request0, requestFor}
+use Rattle.loader.specs.declared.loader.Loader.{Loader}
+use Rattle.loader.specs.declared.loader.Request.{Request}
+use Rattle.loader.specs.Loader.{request0, requestFor}
 use Rattle.registers.specs.declared.state.Common.{Common}
 use Rattle.registers.specs.Answer.{isDone}
 use Rattle.registers.specs.Calls.{Call, tick, write, tag, download, step}

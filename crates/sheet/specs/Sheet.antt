@@ -7,15 +7,15 @@ use lib.Dec.{eqb}
 use lib.ListN.{getD, set}
 use Rattle.words.specs.Pick.{pick}
 use Rattle.lists.specs.Table.{tabulate}
-use Rattle.core.specs.declared.counter.Counter.{Counter}
-use Rattle.core.specs.declared.gate.Gate.{Gate}
-use Rattle.core.specs.declared.loader.Loader.{Loader}
-use Rattle.core.specs.Counter.{cleared, counter0, counterTick, isOver, isUnder, resetOn, withInput}
-use Rattle.core.specs.Gate.{eachGate, gate0, gateAt, gateStep, outputsOf}
-use Rattle.core.specs.Gate.{withMode, withPrepare, withPreparePulse, withRecover, withRecoverPulse, withTimeout}
-use Rattle.core.specs.Lines.{gateCount, risesOf}
-use Rattle.core.specs.Loader.{takes}
-use Rattle.core.specs.Memory.{loaded}
+use Rattle.counters.specs.declared.counter.Counter.{Counter}
+use Rattle.gates.specs.declared.gate.Gate.{Gate}
+use Rattle.loader.specs.declared.loader.Loader.{Loader}
+use Rattle.counters.specs.Counter.{cleared, counter0, counterTick, isOver, isUnder, resetOn, withInput}
+use Rattle.gates.specs.Gate.{eachGate, gate0, gateAt, gateStep, outputsOf}
+use Rattle.gates.specs.Gate.{withMode, withPrepare, withPreparePulse, withRecover, withRecoverPulse, withTimeout}
+use Rattle.lines.specs.Lines.{gateCount, risesOf}
+use Rattle.loader.specs.Loader.{takes}
+use Rattle.loader.specs.Memory.{loaded}
 use Rattle.registers.specs.declared.map.Register.the-variants.{Input, Timeout, Word}
 use Rattle.registers.specs.declared.state.Common.{Common}
 use Rattle.registers.specs.Answer.{isDone}

@@ -3,8 +3,8 @@ use Prim.Native.Nat.{ℕ, _+_, _/_, _%_}
 use mathlib.Core.Bool.{Bool}
 use lib.IntN.{ℤ}
 use Rattle.words.specs.Word.{bit}
-use Rattle.core.specs.declared.counter.Counter.{Counter}
-use Rattle.core.specs.Counter.{counterAt}
+use Rattle.counters.specs.declared.counter.Counter.{Counter}
+use Rattle.counters.specs.Counter.{counterAt}
 use Rattle.registers.specs.Read.{readOf}
 use Rattle.registers.specs.State.{Machine}
 

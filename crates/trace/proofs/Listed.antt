@@ -11,7 +11,7 @@ use lib.Dec.{ltb}
 use lib.ListN.{length}
 use Rattle.words.specs.Pick.{pick}
 use Rattle.words.proofs.Tests.{cases}
-use Rattle.core.specs.Memory.{isWhole}
+use Rattle.loader.specs.Memory.{isWhole}
 use Rattle.registers.specs.Calls.{Call, tick, write, tag, acceptedTicks, answer, callAnswer, from, isRefused, refusals}
 use Rattle.registers.specs.State.{Machine}
 use Rattle.registers.specs.Tick.{badLevels}

@@ -8,7 +8,7 @@ use Rattle.words.specs.Pick.{pick}
 use Rattle.words.specs.Word.{bitOf}
 use Rattle.lists.specs.Table.{tabulate}
 use Rattle.registers.specs.declared.state.Crate.{Crate}
-use Rattle.core.specs.Memory.{isWhole}
+use Rattle.loader.specs.Memory.{isWhole}
 use Rattle.registers.specs.Calls.{Call, tick, write, tag, from, isRefused}
 use Rattle.registers.specs.State.{Machine, machine}
 use Rattle.registers.specs.Tick.{badLevels}

@@ -1,0 +1,10 @@
+// Gates: the logic of one, and all twelve at once.
+mod gate;
+
+pub use gate::Gate;
+pub use gate::GateBit;
+pub use gate::GateChange;
+pub use gate::GateState;
+pub use gate::change_gates;
+pub use gate::gate_bits;
+pub use gate::state_word;
