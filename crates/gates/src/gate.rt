@@ -1,7 +1,7 @@
 // A gate: its logic's state and timer, its register bits, the pulses since the last tick, and what the last tick left.
 ghost use mathlib.Core.Path.{_≡_};
 ghost use Prim.Native.Nat.{_-_, _<_};
-ghost use Rattle.gates.specs.Gate.{stateNumber, prepareSignal, recoverSignal, fromIdle, fromPrepare, fromOpen, fromWaiting, fromError, fromRecover, fromDirect, nextState, inPrepare, timerOf, outputOf, gateStep, withTimeout, withMode, withPrepare, withRecover, withPreparePulse, withRecoverPulse, changeOf, eachGate, bitIn, gateBits, stateWord};
+ghost use Rattle.gates.specs.Gate.{stateNumber, fromIdle, fromPrepare, fromOpen, fromWaiting, fromError, fromRecover, fromDirect, nextState, inPrepare, timerOf, outputOf, gateStep, withTimeout, withMode, withPrepare, withRecover, withPreparePulse, withRecoverPulse, changeOf, eachGate, bitIn, gateBits, stateWord};
 
 // The states in the order of the Manual's IDs 0 to 6; Open is the Manual's GATE.
 pub enum GateState {

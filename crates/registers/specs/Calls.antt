@@ -64,6 +64,10 @@ leftByRefusal m (download d words) = m
 abbrev pub outcome : Answer → Crate → Outcome
 outcome a s = record { answer = a; state = s }
 
+-- the answer and the crate of a call
+abbrev pub outcomeOf : Machine → Call → Outcome
+outcomeOf m x = outcome (answer m x) (step m x .state)
+
 -- "A power-up refused 1 returns the number with a power-up crate"
 unfoldable pub powered : List ℕ → Outcome
 powered memory = outcome (pick (isWhole memory) Done Memory) powerUp

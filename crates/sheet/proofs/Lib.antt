@@ -6,5 +6,7 @@ pub mod Kept
 pub mod OwnTag
 pub mod Projection
 pub mod Reached
+pub mod ReadBack
+pub mod Returned
 pub mod Squares
 pub mod Theorems

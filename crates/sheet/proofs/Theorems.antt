@@ -7,13 +7,17 @@ use mathlib.Core.Option.{some}
 use mathlib.Core.Path.{_≡_, _∙_}
 use lib.ListN.{length}
 use Rattle.loader.specs.declared.loader.Request.{Request}
+use Rattle.registers.specs.declared.answer.Answer.the-variants.{Done}
 use Rattle.registers.specs.Answer.{isDone}
-use Rattle.registers.specs.Calls.{Call, acceptedTicks, after, answer, from, leftByRefusal, refusals, step}
+use Rattle.registers.specs.Calls.{Call, write, acceptedTicks, after, answer, from, leftByRefusal, refusals, step}
+use Rattle.registers.specs.Map.{decodeOf, kept}
+use Rattle.registers.specs.Read.{readBy, readOf}
 use Rattle.registers.specs.State.{Machine}
 use Rattle.registers.proofs.Refused as refusing
 use Rattle.trace.specs.Passed.{callsIn, passedIn}
 use Rattle.trace.specs.Run.{machineOf, runOf}
 use Rattle.trace.proofs.Listed as listing
+use Rattle.sheet.specs.Follows.{follows}
 use Rattle.sheet.specs.Lines.{Lines, ownLines}
 use Rattle.sheet.specs.OwnPart.{ownPart, ownPartOf}
 use Rattle.sheet.specs.Reachable.{OfWords, Reached}
@@ -24,6 +28,7 @@ use Rattle.sheet.proofs.Finishes as finishing
 use Rattle.sheet.proofs.Isolation as isolating
 use Rattle.sheet.proofs.Isolation.{Cut}
 use Rattle.sheet.proofs.Kept.{Holds}
+use Rattle.sheet.proofs.ReadBack as reading
 use Rattle.sheet.proofs.Reached as reaching
 
 -- Demand 3: after every list of calls, counter c shows in the crate what its one-counter sheet shows, fed with c's own part alone.
@@ -66,6 +71,16 @@ reachable = reaching.reachable
 -- A refused call leaves what 01's table says, for every machine and every call: all; a tag all but 0x0900 to 0x0902.
 pub refused : (m : Machine) (x : Call) → isDone (answer m x) ≡ false → step m x ≡ leftByRefusal m x
 refused = refusing.refused
+
+-- Demand 2, over the whole map: after an accepted write a read of the same register gives the word less its unused bits ..
+pub read-back : (l : List Call) (a w : ℕ) → answer (after l) (write a w) ≡ Done →
+    readOf (step (after l) (write a w)) a ≡ readBy Done (kept (decodeOf a) w)
+read-back = reading.read-back
+
+-- .. and a read of any other gives what it gave, but for the side effects that `follows` names.
+pub read-other : (l : List Call) (a w b : ℕ) → (decodeOf a ≡ decodeOf b → ⊥) → follows (decodeOf a) (decodeOf b) ≡ false →
+    readOf (step (after l) (write a w)) b ≡ readOf (after l) b
+read-other = reading.read-other
 
 -- A trace run stands for the calls of the records that it passes: it leaves the crate and memory that they leave, and its records, ticks and
 -- refusals are the counts over them.

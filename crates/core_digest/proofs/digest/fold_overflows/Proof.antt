@@ -1,0 +1,26 @@
+-- `fold_overflows` is safe and ends: the measure is the words left.
+use Prim.Native.Nat.{_-_}
+use borrow.Author.Needs.{needs}
+use Rattle.core_digest.proofs.digest.fold_overflows.Statement.{statement}
+use Rattle.core_digest.proofs.digest.fold_overflows.Tie as tie
+
+abbrev Inv-loop : tie.InvT-loop
+Inv-loop start counters positive d₀ k₀ d k = Unit {0}
+
+abbrev μ-loop : tie.MeasureT-loop
+μ-loop start counters positive d₀ k₀ d k = 8 - k
+
+pub fold-overflows-spec : {M : Type 1} → statement M
+fold-overflows-spec =
+    tie.close
+    (tie.spec
+    Inv-loop
+    μ-loop
+    (λ c. search needs)
+    (λ c κs. search needs)
+    (λ c. search needs)
+    (λ c κs. search needs)
+    (λ c. search needs)
+    (λ c. search needs)
+    (λ c. search needs)
+    (λ c. search needs))

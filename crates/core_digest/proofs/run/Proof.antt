@@ -1,0 +1,32 @@
+-- `run` is safe and ends: the measure is the ticks left.
+use Prim.Native.Nat.{_-_}
+use borrow.Author.Needs.{needs}
+use Rattle.core_digest.proofs.run.Statement.{statement}
+use Rattle.core_digest.proofs.run.Tie as tie
+
+abbrev Inv-loop : tie.InvT-loop
+Inv-loop mem core₀ d₀ t₀ core d t = Unit {0}
+
+abbrev μ-loop : tie.MeasureT-loop
+μ-loop mem core₀ d₀ t₀ core d t = 400 - t
+
+pub run-spec : {M : Type 1} → statement M
+run-spec =
+    tie.close
+    (tie.spec
+    Inv-loop
+    μ-loop
+    (λ c κs. search needs)
+    (λ c. search needs)
+    (λ c κs. search needs)
+    (λ c κs. search needs)
+    (λ c κs. search needs)
+    (λ c κs. search needs)
+    (λ c. search needs)
+    (λ c κs. search needs)
+    (λ c κs. search needs)
+    (λ c. search needs)
+    (λ c. search needs)
+    (λ c. search needs)
+    (λ c. search needs)
+    (λ c. search needs))

@@ -1,0 +1,23 @@
+-- `event_map` meets its contract: each return is the definition's row by the tests on the way (`tests`).
+use Rattle.words.proofs.Tests.{tests}
+use Rattle.registers.specs.Map.{eventMap}
+use Rattle.registers.proofs.map.event_map.Statement.{statement}
+use Rattle.registers.proofs.map.event_map.Tie as tie
+
+pub event-map-spec : {M : Type 1} → statement M
+unfolding eventMap
+event-map-spec =
+    tie.close
+    (tie.spec
+    (λ c. search tests)
+    (λ c. search tests)
+    (λ c. search tests)
+    (λ c. search tests)
+    (λ c. search tests)
+    (λ c. search tests)
+    (λ c. search tests)
+    (λ c. search tests)
+    (λ c. search tests)
+    (λ c. search tests)
+    (λ c. search tests)
+    (λ c. search tests))
