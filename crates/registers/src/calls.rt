@@ -126,7 +126,7 @@ pub fn power_up(mem: &mut [u16]) -> Outcome
 
 // A read: the word at an address, 0 where it is refused.
 pub fn read(state: Crate, mem: &[u16], address: u16) -> Read
-    ensures { λ r. ⌜ r ≡ readOf (machine state (now (mem .entry))) address ⌝ }
+    ensures { λ r. ⌜ (r ≡ readOf (machine state (now (mem .entry))) address) × (now (mem .exit) ≡ now (mem .entry)) ⌝ }
 {
     if mem.len() != 16384 {
         return Read {
@@ -162,7 +162,7 @@ pub fn write(state: Crate, mem: &mut [u16], address: u16, word: u16) -> Outcome
 
 // An event tag.
 pub fn tag(state: Crate, mem: &[u16], t: u32) -> Outcome
-    ensures { λ r. ⌜ r ≡ outcomeOf (machine state (now (mem .entry))) (Call·tag t) ⌝ }
+    ensures { λ r. ⌜ (r ≡ outcomeOf (machine state (now (mem .entry))) (Call·tag t)) × (now (mem .exit) ≡ step (machine state (now (mem .entry))) (Call·tag t) .memory) ⌝ }
 {
     if mem.len() != 16384 {
         return Outcome {
@@ -181,7 +181,7 @@ pub fn tag(state: Crate, mem: &[u16], t: u32) -> Outcome
 
 // A tick at these levels of inputs and gates.
 pub fn tick(state: Crate, mem: &[u16], inputs: u64, gates: u16) -> Outcome
-    ensures { λ r. ⌜ r ≡ outcomeOf (machine state (now (mem .entry))) (Call·tick inputs gates) ⌝ }
+    ensures { λ r. ⌜ (r ≡ outcomeOf (machine state (now (mem .entry))) (Call·tick inputs gates)) × (now (mem .exit) ≡ step (machine state (now (mem .entry))) (Call·tick inputs gates) .memory) ⌝ }
 {
     if mem.len() != 16384 {
         return Outcome {

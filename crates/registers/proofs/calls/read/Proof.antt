@@ -1,4 +1,5 @@
 -- `read` meets its contract, by the length of the memory.
+use mathlib.Core.Path.{refl}
 use borrow.Author.Needs.{needs}
 use borrow.Author.Tests.{eq-eqb, ne-eqb}
 use Rattle.registers.specs.Read.{readOf}
@@ -7,13 +8,13 @@ use Rattle.registers.proofs.calls.read.Tie as tie
 
 returns : tie.Need-returns
 unfolding readOf
-returns c = rw (ne-eqb _ _ (c .if1 .taken))
+returns c = (rw (ne-eqb _ _ (c .if1 .taken)), refl)
 
 returns-2 : tie.Need-returns-2
 unfolding readOf
 returns-2 c =
     let d = c .before .before in
-    rw (eq-eqb _ _ (d .before .if1 .left), c .word-in .ensures, c .before .answer-for .ensures, d .decode .ensures)
+    (rw (eq-eqb _ _ (d .before .if1 .left), c .word-in .ensures, c .before .answer-for .ensures, d .decode .ensures), refl)
 
 pub read-spec : {M : Type 1} → statement M
 read-spec =
