@@ -7,7 +7,7 @@ use Rattle.lists.specs.Checks.{row, right}
 use Rattle.lists.proofs.Rows.{row-right}
 use Rattle.bench.proofs.Computing.{computing}
 use Rattle.sheet.specs.Requests.{standAfter}
-use Rattle.trace.specs.Printed.{programPrints}
+use Rattle.printing.specs.Printed.{programPrints}
 use Rattle.bench.specs.Example.{example, exampleText}
 use Rattle.bench.specs.Starred.{starred}
 use Rattle.bench.proofs.Worked.{worked, gateRows, counterRows, registerRows, refusalRows, loaderRows, boundRows, outputRows, traceRows}

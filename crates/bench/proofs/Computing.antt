@@ -3,7 +3,7 @@ use mathlib.Core.Bool.{Bool}
 use mathlib.Core.List.{List}
 use Rattle.lists.specs.Checks.{Row, right}
 use Rattle.registers.proofs.Computing as registers
-use Rattle.trace.specs.Printed.{ascii, decimalIn, decimal, hexadecimal, stopText, reportLine, wordsFrom, printed, programRun, programPrints}
+use Rattle.printing.specs.Printed.{ascii, decimalIn, decimal, hexadecimal, stopText, reportLine, wordsFrom, printed, programRun, programPrints}
 use Rattle.trace.specs.Records.{numberAt, nextAt, ticksAt, payloadAt, recordAt}
 use Rattle.trace.specs.Run.{passes, repeated, ticksIn, callIn, byRecord, onceOf, runFrom, runOf}
 

@@ -25,3 +25,4 @@ pub use state::Common;
 pub use state::Crate;
 pub use state::Events;
 pub use state::Rest;
+pub use ticking::bad_levels;

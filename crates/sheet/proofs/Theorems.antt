@@ -16,6 +16,7 @@ use Rattle.registers.specs.State.{Machine}
 use Rattle.registers.proofs.Refused as refusing
 use Rattle.trace.specs.Passed.{callsIn, passedIn}
 use Rattle.trace.specs.Run.{machineOf, runOf}
+use Rattle.trace.proofs.Halts as halting
 use Rattle.trace.proofs.Listed as listing
 use Rattle.sheet.specs.Follows.{follows}
 use Rattle.sheet.specs.Lines.{Lines, ownLines}
@@ -87,6 +88,10 @@ read-other = reading.read-other
 module _ (t : List ℕ) (budget : ℕ) (m : Machine) where
   pub run-is-list : machineOf (runOf t budget m) ≡ from m (callsIn (passedIn t budget m))
   run-is-list = listing.run-is-list t budget m .state
+
+  -- it ends with a stop cause
+  pub run-halts : runOf t budget m .progress .going ≡ false
+  run-halts = halting.run-halts t budget m
 
   pub run-records : runOf t budget m .progress .report .records ≡ length (passedIn t budget m)
   run-records = listing.run-is-list t budget m .records ∙ zero-add (length (passedIn t budget m))

@@ -1,1 +1,4 @@
+pub mod Halts
 pub mod Listed
+pub mod Numbers
+pub mod Steps

@@ -1,7 +1,7 @@
 -- A run is the list of the calls of the records that it passes: its crate and memory are those after the list, and its ticks, records and
 -- refusals are the counts over it.
-use Prim.Native.Nat.{ℕ, zero, suc, _+_, _-_}
-use native.Mathlib.Nat.{add-assoc, add-zero}
+use Prim.Native.Nat.{ℕ, zero, suc, _+_, _-_, _<_}
+use native.Mathlib.Nat.{add-assoc, add-zero, not-suc-le-zero}
 use native.Mathlib.Omega.{arith}
 use mathlib.Core.Bool.{Bool, true, false}
 use mathlib.Core.List.{List, [], _∷_, _++_}
@@ -118,7 +118,12 @@ module _ (t : List ℕ) (budget : ℕ) where
   run-by fuel r e =
       ap (λ (b : Bool). pick {A = Run → Run} b (λ (q : Run). runFrom fuel t budget (onceOf t budget q)) (λ (q : Run). q) r) e
 
-  halted-stays : (fuel : ℕ) (q : Run) → q .progress .going ≡ false → runFrom fuel t budget q ≡ q
+  pub run-on : (fuel : ℕ) (r : Run) → r .progress .going ≡ true → 0 < fuel →
+      runFrom (fuel - 1) t budget (onceOf t budget r) ≡ runFrom fuel t budget r
+  run-on zero r e h = absurd (not-suc-le-zero h)
+  run-on (suc fuel) r e h = let d : suc fuel - 1 ≡ fuel = omega arith in rw d (sym (run-by fuel r e))
+
+  pub halted-stays : (fuel : ℕ) (q : Run) → q .progress .going ≡ false → runFrom fuel t budget q ≡ q
   unfolding runFrom
   halted-stays zero q e = refl
   halted-stays (suc fuel) q e = run-by fuel q e

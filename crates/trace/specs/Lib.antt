@@ -1,4 +1,4 @@
 pub mod Passed
-pub mod Printed
 pub mod Records
 pub mod Run
+pub mod Sound

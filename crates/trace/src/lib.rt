@@ -1,5 +1,10 @@
 // Traces: records of calls, the run of a trace with a budget of ticks, and its report.
+mod records;
+mod running;
+
+pub use records::record_at;
 use registers::Crate;
+pub use running::run;
 
 // Why a run ends. Of the refusals specs/Run.antt has the numbers.
 pub enum Stop {

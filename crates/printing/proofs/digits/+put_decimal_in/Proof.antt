@@ -1,0 +1,53 @@
+-- `put_decimal_in` meets its contract, digit by digit. The measure is the number of places.
+use Prim.Native.Nat.{ℕ, _<_}
+use native.Mathlib.Omega.{arith}
+use mathlib.Core.List.{append-assoc}
+use borrow.Author.Needs.{needs}
+use borrow.Author.Tests.{lt-ltb, le-ltb}
+use borrow.Fn.Kinds.{In}
+use borrow.Fn.PlainCycle.{Measures, is, falls, and}
+use Rattle.printing.specs.Printed.{decimalIn}
+use Rattle.printing.proofs.Pages.{cut-cut, same-page}
+use Rattle.printing.proofs.Places.{decimal-more}
+use Rattle.printing.proofs.digits.put_decimal_in.Reads as reads
+use Rattle.printing.proofs.digits.put_decimal_in.Kinds as kinds
+use Rattle.printing.proofs.digits.+put_decimal_in.Lts-put_decimal_in as lts
+use Rattle.printing.proofs.digits.digit.Reads as digit-reads
+use Rattle.printing.proofs.page.Page.put.Reads as put-reads
+use Rattle.printing.proofs.digits.+put_decimal_in.{statement}
+use Rattle.printing.proofs.digits.+put_decimal_in.Tie.{close}
+
+abbrev μ : Measures 0 kinds.ps ℕ
+μ κs a = a .1 .0
+
+abbrev now : ℕ → In 0 kinds.ps
+now t = and 0 kinds.ps (is 0 kinds.ps μ t) reads.Pre
+
+abbrev below : ℕ → In 0 kinds.ps
+below t = and 0 kinds.ps (falls 0 kinds.ps _<_ μ t) reads.Pre
+
+pub +put-decimal-in-spec : {M : Type 1} → statement M
+unfolding decimalIn
++put-decimal-in-spec =
+    close μ λ t.
+    lts.spec (digit-reads.Asked, digit-reads.Learnt, put-reads.Asked, put-reads.Learnt, below t, reads.Post) (now t) reads.Post
+    (λ c. rw (c .if1 .taken) (same-page (c .before .args .page) (search needs)))
+    (λ c κs. search needs)
+    (λ c κs. search needs)
+    (λ c.
+    let d = c .before .before in
+    rw (c .put .ensures .0, d .digit .ensures, decimal-more _ _ (d .before .if1 .left), lt-ltb _ _ (c .before .if2 .taken)))
+    (λ c. search needs)
+    (λ c κs. (omega arith, tt))
+    (λ c κs. search needs)
+    (λ c.
+    let d = c .before .before .before in
+    rw (
+      c .put2 .ensures .0,
+      c .before .put-decimal-in .ensures,
+      d .digit .ensures,
+      cut-cut,
+      append-assoc,
+      decimal-more _ _ (d .before .if1 .left),
+      le-ltb _ _ (c .before .before .if2 .left),
+    ))
