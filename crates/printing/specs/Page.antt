@@ -11,6 +11,6 @@ pageBytes = 256
 unfoldable pub written : Page → List ℕ
 written p = take (p .length) (p .bytes)
 
--- what goes past the page is lost; `printed` fits (proofs/Sizes.antt)
+-- what a page holds of a text: what goes past it is lost. `printed` fits (proofs/Sizes.antt)
 unfoldable pub cut : List ℕ → List ℕ
 cut text = take pageBytes text

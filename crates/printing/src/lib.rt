@@ -1,9 +1,10 @@
-// The bytes that the program prints: a page with the report of a run and three lines of registers.
+// The bytes that the program prints: a page with the report of a run, both overflow blocks and the outputs.
 mod digits;
 mod page;
 mod program;
 mod report;
 
+pub use digits::put_decimal;
 pub use digits::put_hexadecimal;
 pub use page::Page;
 pub use program::printed;

@@ -5,7 +5,7 @@ ghost use Prim.Native.Nat.{_≤_};
 ghost use lib.ListN.{length};
 ghost use Rattle.printing.specs.Page.{written, cut};
 
-// The first `length` bytes are written.
+// 256 bytes, of which the first `length` are written.
 pub struct Page {
     pub bytes: [u8; 256],
     pub length: usize,

@@ -1,4 +1,4 @@
-// The four lines that the program prints.
+// What the program prints: the four lines, and the run that they tell of.
 ghost use mathlib.Core.Path.{_≡_};
 ghost use mathlib.Core.List.{_++_};
 ghost use Prim.Native.Nat.{_+_, _≤_, _<_, min};
@@ -50,7 +50,7 @@ pub fn printed(report: Report, state: Crate, mem: &[u16]) -> Page
     p.put(b'\n')
 }
 
-// The bytes of the input that are run.
+// How many bytes of the input are run.
 fn taken(length: usize) -> usize
     ensures { λ r. ⌜ r ≡ min length programBytes ⌝ }
 {

@@ -27,41 +27,91 @@ fn write(page: Page) {
     }
 }
 
-fn main() {
-    write(printing::rehearse(&traces::EXAMPLE));
+// The tick of the first rise of a test signal, counted by counter 0 on a direct gate; 0 if there is none in 20,000.
+fn first_rise(signal: u16) -> u64 {
+    let mut mem = [0u16; 16384];
+    let start = registers::power_up(&mut mem);
+    let patched = registers::write(start.state, &mut mem, 0x1000, 0x0D80 + signal % 64);
+    let direct = registers::write(patched.state, &mut mem, 0x0802, 1);
+    let mut state = direct.state;
+    let mut tick: u64 = 0;
+    while tick < 20000 {
+        let outcome = registers::tick(state, &mem, 0, 1);
+        state = outcome.state;
+        tick += 1;
+        let read = registers::read(state, &mem, 0x1200);
+        if read.word == 1 {
+            return tick;
+        }
+    }
+    0
+}
+
+// The first rises of the nine test signals.
+fn first_rises() {
+    let mut line = Page::new().put_text(b"first rises of test signals 55 to 63:");
+    let mut signal: u16 = 55;
+    while signal < 64 {
+        let tick = first_rise(signal);
+        line = printing::put_decimal(line.put(b' '), tick);
+        signal += 1;
+    }
+    write(line.put(b'\n'));
+}
+
+// Watchdog errors of inputs 0 to 15, and states of gates 0 to 3.
+fn timeouts() {
     check(
-        b"watchdog errors of inputs 0 to 15, rises 128 apart: ",
+        b"watchdogs, rises 128 apart: ",
         &traces::RISES_128_APART,
         0x0711,
     );
     check(
-        b"watchdog errors of inputs 0 to 15, rises 129 apart: ",
+        b"watchdogs, rises 129 apart: ",
         &traces::RISES_129_APART,
         0x0711,
     );
+    check(b"gates, 16383 low ticks: ", &traces::LOW_16383, 0x071A);
+    check(b"gates, 16384 low ticks: ", &traces::LOW_16384, 0x071A);
+}
+
+// The count of counter 0, and the state of its gate.
+fn autoreset() {
     check(
-        b"states of gates 0 to 3, 16383 low ticks: ",
-        &traces::LOW_16383,
-        0x071A,
-    );
-    check(
-        b"states of gates 0 to 3, 16384 low ticks: ",
-        &traces::LOW_16384,
-        0x071A,
-    );
-    check(
-        b"AUTORESET, gate opened twice, count of counter 0: ",
+        b"AUTORESET, gate opened twice, count: ",
         &traces::GATE_REOPENED,
         0x1200,
     );
     check(
-        b"AUTORESET, gate in ERROR, count of counter 0: ",
+        b"AUTORESET, gate in ERROR, count: ",
         &traces::GATE_IN_ERROR,
         0x1200,
     );
     check(
-        b"AUTORESET, gate in ERROR, states of gates 0 to 3: ",
+        b"AUTORESET, gate in ERROR, gates: ",
         &traces::GATE_IN_ERROR,
         0x071A,
     );
+}
+
+// The low words of the positive thresholds of counters 0 and 127.
+fn reload() {
+    check(
+        b"written during a reload, counter 0: ",
+        &traces::WRITTEN_DURING_RELOAD,
+        0x1800,
+    );
+    check(
+        b"written during a reload, counter 127: ",
+        &traces::WRITTEN_DURING_RELOAD,
+        0x19FC,
+    );
+}
+
+fn main() {
+    write(printing::rehearse(&traces::EXAMPLE));
+    timeouts();
+    first_rises();
+    reload();
+    autoreset();
 }

@@ -20,8 +20,9 @@ use Rattle.printing.proofs.digits.+put_decimal_in.Tie.{close}
 abbrev μ : Measures 0 kinds.ps ℕ
 μ κs a = a .1 .0
 
-abbrev now : ℕ → In 0 kinds.ps
-now t = and 0 kinds.ps (is 0 kinds.ps μ t) reads.Pre
+-- what the function is given at the measure t, and what a call of it asks below t
+abbrev given : ℕ → In 0 kinds.ps
+given t = and 0 kinds.ps (is 0 kinds.ps μ t) reads.Pre
 
 abbrev below : ℕ → In 0 kinds.ps
 below t = and 0 kinds.ps (falls 0 kinds.ps _<_ μ t) reads.Pre
@@ -30,13 +31,13 @@ pub +put-decimal-in-spec : {M : Type 1} → statement M
 unfolding decimalIn
 +put-decimal-in-spec =
     close μ λ t.
-    lts.spec (digit-reads.Asked, digit-reads.Learnt, put-reads.Asked, put-reads.Learnt, below t, reads.Post) (now t) reads.Post
+    lts.spec (digit-reads.Asked, digit-reads.Learnt, put-reads.Asked, put-reads.Learnt, below t, reads.Post) (given t) reads.Post
     (λ c. rw (c .if1 .taken) (same-page (c .before .args .page) (search needs)))
     (λ c κs. search needs)
     (λ c κs. search needs)
     (λ c.
     let d = c .before .before in
-    rw (c .put .ensures .0, d .digit .ensures, decimal-more _ _ (d .before .if1 .left), lt-ltb _ _ (c .before .if2 .taken)))
+    rw (c .put .ensures .0, d .digit .ensures, decimal-more _ _ (d .before .if1 .left), lt-ltb (d .before .before .args .n) 10 (omega arith)))
     (λ c. search needs)
     (λ c κs. (omega arith, tt))
     (λ c κs. search needs)
@@ -49,5 +50,5 @@ unfolding decimalIn
       cut-cut,
       append-assoc,
       decimal-more _ _ (d .before .if1 .left),
-      le-ltb _ _ (c .before .before .if2 .left),
+      le-ltb (d .before .before .args .n) 10 (omega arith),
     ))

@@ -19,8 +19,9 @@ use Rattle.printing.proofs.digits.+put_hexadecimal.Tie.{close}
 abbrev μ : Measures 0 kinds.ps ℕ
 μ κs a = a .1 .0
 
-abbrev now : ℕ → In 0 kinds.ps
-now t = and 0 kinds.ps (is 0 kinds.ps μ t) reads.Pre
+-- what the function is given at the measure t, and what a call of it asks below t
+abbrev given : ℕ → In 0 kinds.ps
+given t = and 0 kinds.ps (is 0 kinds.ps μ t) reads.Pre
 
 abbrev below : ℕ → In 0 kinds.ps
 below t = and 0 kinds.ps (falls 0 kinds.ps _<_ μ t) reads.Pre
@@ -29,7 +30,7 @@ pub +put-hexadecimal-spec : {M : Type 1} → statement M
 unfolding hexadecimal
 +put-hexadecimal-spec =
     close μ λ t.
-    lts.spec (digit-reads.Asked, digit-reads.Learnt, below t, reads.Post, put-reads.Asked, put-reads.Learnt) (now t) reads.Post
+    lts.spec (digit-reads.Asked, digit-reads.Learnt, below t, reads.Post, put-reads.Asked, put-reads.Learnt) (given t) reads.Post
     (λ c. rw (c .if1 .taken) (same-page (c .before .args .page) (search needs)))
     (λ c κs. search needs)
     (λ c. search needs)

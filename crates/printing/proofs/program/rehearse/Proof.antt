@@ -7,7 +7,6 @@ use Rattle.printing.proofs.Prints.{prints}
 use Rattle.printing.proofs.program.rehearse.Statement.{statement}
 use Rattle.printing.proofs.program.rehearse.Tie as tie
 
--- src/program.rt:67:43
 slice-aggregate-run-2 : tie.Need-slice-aggregate-run-2
 slice-aggregate-run-2 c =
     let t = c .before .before .before .before .before .before in
