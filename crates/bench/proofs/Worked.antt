@@ -380,18 +380,18 @@ tickRecord n inputs gates =
     1 ∷ 0 ∷ 11 ∷ n / 256 ∷ n % 256 ∷ 0 ∷ 0 ∷ 0 ∷ 0 ∷ 0 ∷ 0 ∷ inputs ∷ gates / 256 ∷ gates % 256 ∷ []
 
 -- a refusal's number, 20 for END and 30 for SPENT
-abbrev pub stopCode : Stop → ℕ
-stopCode End = 20
-stopCode Spent = 30
-stopCode Memory = stopNumber Memory
-stopCode UnknownTag = stopNumber UnknownTag
-stopCode WrongLength = stopNumber WrongLength
-stopCode Cut = stopNumber Cut
-stopCode NoRepeat = stopNumber NoRepeat
+abbrev pub stopMark : Stop → ℕ
+stopMark End = 20
+stopMark Spent = 30
+stopMark Memory = stopNumber Memory
+stopMark UnknownTag = stopNumber UnknownTag
+stopMark WrongLength = stopNumber WrongLength
+stopMark Cut = stopNumber Cut
+stopMark NoRepeat = stopNumber NoRepeat
 
 -- the report of a run from power-up, as one number: stop, next offset, ticks, records and refusals, three digits each
 abbrev pub digits : Report → ℕ
-digits r = (((stopCode (r .stop) * 1000 + r .next) * 1000 + r .ticks) * 1000 + r .records) * 1000 + r .refused
+digits r = (((stopMark (r .stop) * 1000 + r .next) * 1000 + r .ticks) * 1000 + r .records) * 1000 + r .refused
 
 abbrev pub reports : List ℕ → ℕ → ℕ
 reports t budget = digits (runOf t budget machine0 .progress .report)

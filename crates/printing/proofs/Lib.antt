@@ -2,3 +2,4 @@ pub mod Pages
 pub mod Places
 pub mod Prints
 pub mod Sizes
+pub mod Theorems

@@ -9,3 +9,4 @@ pub use digits::put_hexadecimal;
 pub use page::Page;
 pub use program::printed;
 pub use program::rehearse;
+pub use report::put_report;

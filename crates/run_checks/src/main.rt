@@ -1,7 +1,9 @@
-// Runs the checks that document 01 wants run, each from power-up, and prints the register that shows the result.
+// Runs the checks that document 01 wants run, each from power-up, and prints the register that shows the result; then the stored traces.
+mod page;
+mod stored;
 mod traces;
 
-use libc::STDOUT_FILENO;
+use page::write;
 use printing::Page;
 
 // The word of a register after a trace, in a line behind the check's name.
@@ -16,15 +18,6 @@ fn check(name: &[u8], trace: &[u8], address: u16) {
         b'\n',
     );
     write(line);
-}
-
-// A page on standard output; the gate compares what is written.
-fn write(page: Page) {
-    let bytes = page.bytes;
-    let length = page.length;
-    if length <= 256 {
-        io::write_all(STDOUT_FILENO, &bytes[..length]);
-    }
 }
 
 // The tick of the first rise of a test signal, counted by counter 0 on a direct gate; 0 if there is none in 20,000.
@@ -114,4 +107,5 @@ fn main() {
     first_rises();
     reload();
     autoreset();
+    stored::run_all();
 }

@@ -9,12 +9,12 @@ use Rattle.counters.specs.Counter.{counterAt}
 use Rattle.registers.specs.Calls.{Call, after, from, machine0, step}
 use Rattle.registers.specs.State.{Machine}
 use Rattle.registers.proofs.Overflows.{over-bit, under-bit}
-use Rattle.sheet.specs.Lines.{Lines, ownLines}
-use Rattle.sheet.specs.OwnPart.{Part, added, own, ownPart}
+use Rattle.sheet.specs.Lines.{Holds, Lines, ownLines}
+use Rattle.sheet.specs.OwnPart.{Cut, Part, added, own, ownPart}
 use Rattle.sheet.specs.Sheet.{Sheet, sheet0, sheetAfter, sheetFrom, sheetShows}
 use Rattle.sheet.specs.Shows.{shown, shows}
 use Rattle.sheet.proofs.Fed.{from-added, sheetStepBy}
-use Rattle.sheet.proofs.Kept.{Holds, fits, fits-start, holds-all, holds-both, holds-left, holds-right, sized, sized-start}
+use Rattle.sheet.proofs.Kept.{fits, fits-start, holds-all, holds-both, holds-left, holds-right, sized, sized-start}
 use Rattle.sheet.proofs.Projection.{Fits, Sized, sheetIn, start}
 use Rattle.sheet.proofs.Squares.{square}
 
@@ -79,13 +79,6 @@ ownPart-append : (S : Lines) (c : ℕ) (l₁ l₂ : List Call) → ownPart S c (
 unfolding ownPart
 ownPart-append S c [] l₂ = refl
 ownPart-append S c (x ∷ l₁) l₂ = rw (ownPart-append S c l₁ l₂) (added-append (own S c x) (ownPart S c l₁) (ownPart S c l₂))
-
--- a list cut behind a beginning of its own part
-pub record Cut (S : Lines) (c : ℕ) (l : List Call) (parts : List Part) : Type 0 where
-  pub first : List Call
-  pub rest : List Call
-  pub whole : l ≡ first ++ rest
-  pub part : ownPart S c first ≡ parts
 
 cut-call : (S : Lines) (c : ℕ) (x : Call) (l : List Call) (ps qs : List Part) →
     ((ps qs : List Part) → ownPart S c l ≡ ps ++ qs → Cut S c l ps) →

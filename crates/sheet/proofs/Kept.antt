@@ -31,7 +31,7 @@ use Rattle.registers.specs.Tag.{commandOf, commanded, eventsOn, notedIn, rightK
 use Rattle.registers.specs.Tick.{badLevels, tickOf}
 use Rattle.registers.specs.Write.{onCommon, onCounters, onGates, resetBy, writeAt}
 use Rattle.registers.proofs.Whole.{length-replaced}
-use Rattle.sheet.specs.Lines.{Lines, join, linesAt, linesIn, linesOf}
+use Rattle.sheet.specs.Lines.{Holds, Lines, join, linesAt, linesIn, linesOf}
 use Rattle.sheet.specs.OwnPart.{downloaded, isOwnWord, own, ownAt, tagged, ticked}
 use Rattle.sheet.specs.Sheet.{Sheet, sheetCommand, sheetLoad, sheetStep, sheetTag, sheetTick}
 use Rattle.sheet.proofs.Fed.{sheetStepBy}
@@ -138,11 +138,6 @@ unfolding powerUp memory0
 sized-start = record { counters = length-tabulate 128 _; groups = length-tabulate 32 _; gates = length-tabulate 12 _; memory = length-tabulate 16384 _ }
 
 -- ---- the lines of S are enough
-
--- S has the lines of T
-pub record Holds (S T : Lines) : Type 0 where
-  pub inputs : (i : ℕ) → T .inputs i ≡ true → S .inputs i ≡ true
-  pub gates : (g : ℕ) → T .gates g ≡ true → S .gates g ≡ true
 
 pub holds-all : (S : Lines) → Holds S S
 holds-all S = record { inputs = λ i e. e; gates = λ g e. e }

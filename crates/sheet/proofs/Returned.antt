@@ -10,6 +10,7 @@ use Rattle.loader.specs.declared.loader.Request.{Request}
 use Rattle.loader.specs.Memory.{isWhole}
 use Rattle.registers.specs.declared.answer.Answer.the-variants.{Done}
 use Rattle.registers.specs.declared.answer.Outcome.{Outcome}
+use Rattle.registers.specs.declared.answer.Read.{Read}
 use Rattle.registers.specs.Answer.{isDone}
 use Rattle.registers.specs.Calls.{Call, write, acceptedTicks, after, answer, from, leftByRefusal, machine0, powered, poweredMemory, refusals, step}
 use Rattle.registers.specs.Map.{decodeOf, kept}
@@ -18,16 +19,17 @@ use Rattle.registers.specs.State.{Machine, machine}
 use Rattle.registers.proofs.Lists.{from-append}
 use Rattle.trace.specs.declared.Progress.{Progress}
 use Rattle.trace.specs.Passed.{callsIn, passedIn}
-use Rattle.trace.specs.Run.{Run, machineOf}
+use Rattle.trace.specs.Run.{Run, machineOf, onceOf, run}
+use Rattle.trace.specs.Sound.{Sound}
 use Rattle.sheet.specs.Follows.{follows}
 use Rattle.sheet.specs.Lines.{ownLines}
 use Rattle.sheet.specs.OwnPart.{ownPart, ownPartOf}
 use Rattle.sheet.specs.Reachable.{OfWords, Reached}
 use Rattle.sheet.specs.Requests.{finished, requestMade, standAfter, waits}
-use Rattle.sheet.specs.Returned.{Act, calling, tracing, Ran, Rehearsed, Returned, Went, listFrom, listOf}
+use Rattle.sheet.specs.Returned.{Act, calling, reading, tracing, Looked, Powered, Ran, Rehearsed, Returned, Went, listFrom, listOf}
 use Rattle.sheet.specs.Sheet.{sheetAfter, sheetShows}
 use Rattle.sheet.specs.Shows.{shows}
-use Rattle.sheet.proofs.Theorems.{alike-cut, finishes, isolation, reachable, read-back, read-other, refused, run-halts, run-is-list, run-records, run-refusals, run-ticks}
+use Rattle.sheet.proofs.Theorems.{alike-cut, finishes, isolation, reachable, read-back, read-other, refused, run-halts, run-is-list, run-records, run-refusals, run-sound, run-stops, run-ticks}
 
 -- one call, one run
 stepped : (m : Machine) (x : Call) (r : Outcome) (memory : List ℕ) → Returned m x r memory → machine (r .state) memory ≡ step m x
@@ -44,20 +46,22 @@ went m [] n w = w
 went m (calling x ∷ l) n w =
     went (machine (w .0 .state) (w .1)) l n (w .3)
     ∙ ap (λ (k : Machine). from k (listFrom k l)) (stepped m x (w .0) (w .1) (w .2))
+went m (reading a ∷ l) n w =
+    went (machine (m .state) (w .1)) l n (w .3) ∙ ap (λ (memory : List ℕ). from (machine (m .state) memory) (listFrom (machine (m .state) memory) l)) (w .2 .left)
 went m (tracing t budget ∷ l) n w =
     went (machine (w .0 .state) (w .1)) l n (w .3)
     ∙ ap (λ (k : Machine). from k (listFrom k l)) (traced m t budget (w .0) (w .1) (w .2))
     ∙ sym (from-append m (callsIn (passedIn t budget m)) (listFrom (from m (callsIn (passedIn t budget m))) l))
 
 -- power-up on a memory of 16,384 words
-powered-up : (memory : List ℕ) → isWhole memory ≡ true → machine (powered memory .state) (poweredMemory memory) ≡ machine0
+powered-up : (memory : List ℕ) → isWhole memory ≡ true → (r : Outcome) (left : List ℕ) → Powered memory r left → machine (r .state) left ≡ machine0
 unfolding powered poweredMemory
-powered-up memory e = rw e
+powered-up memory e r left up = (λ i. machine ((up .result i) .state) (up .cleared i)) ∙ rw e
 
 -- what went through power-up, calls and runs is what `after` says of the list of calls
 pub rehearsed : (l : List Act) (n : Machine) → Rehearsed l n → n ≡ after (listOf l)
 unfolding Rehearsed after listOf
-rehearsed l n h = went _ l n (h .2) ∙ ap (λ (k : Machine). from k (listFrom k l)) (powered-up (h .0) (h .1))
+rehearsed l n h = went _ l n (h .5) ∙ ap (λ (k : Machine). from k (listFrom k l)) (powered-up (h .0) (h .1) (h .2) (h .3) (h .4))
 
 -- ---- the theorems, of the code
 
@@ -77,20 +81,33 @@ module _ (l : List Act) (n : Machine) (h : Rehearsed l n) where
       standAfter (step k x) more (waits (k .state .common .queue .waiting)) ≡ finished)
       (sym (rehearsed l n h)) (finishes (listOf l) x r)
 
-  pub code-read-back : (a w : ℕ) → answer n (write a w) ≡ Done → readOf (step n (write a w)) a ≡ readBy Done (kept (decodeOf a) w)
-  code-read-back a w =
-      subst (λ (k : Machine). answer k (write a w) ≡ Done → readOf (step k (write a w)) a ≡ readBy Done (kept (decodeOf a) w))
-      (sym (rehearsed l n h)) (read-back (listOf l) a w)
+  -- what a read after the list returns
+  pub code-read : (a : ℕ) (q : Read) (memory : List ℕ) → Looked n a q memory → q ≡ readOf (after (listOf l)) a
+  code-read a q memory look = look .result ∙ ap (λ (k : Machine). readOf k a) (rehearsed l n h)
 
+  -- a write that `write` accepted, and a read after it
+  pub code-read-back : (a w : ℕ) (r : Outcome) (memory : List ℕ) → Returned n (write a w) r memory → r .answer ≡ Done →
+      (q : Read) (left : List ℕ) → Looked (machine (r .state) memory) a q left → q ≡ readBy Done (kept (decodeOf a) w)
+  code-read-back a w r memory back e q left look =
+      look .result
+      ∙ ap (λ (k : Machine). readOf k a) (stepped n (write a w) r memory back)
+      ∙ subst (λ (k : Machine). answer k (write a w) ≡ Done → readOf (step k (write a w)) a ≡ readBy Done (kept (decodeOf a) w))
+      (sym (rehearsed l n h)) (read-back (listOf l) a w) (sym (ap (λ (o : Outcome). o .answer) (back .result)) ∙ e)
+
+  -- two reads of another register, before a write and after it
   pub code-read-other : (a w b : ℕ) → (decodeOf a ≡ decodeOf b → ⊥) → follows (decodeOf a) (decodeOf b) ≡ false →
-      readOf (step n (write a w)) b ≡ readOf n b
-  code-read-other a w b d f =
-      subst (λ (k : Machine). readOf (step k (write a w)) b ≡ readOf k b) (sym (rehearsed l n h)) (read-other (listOf l) a w b d f)
+      (p : Read) (kept : List ℕ) → Looked n b p kept → (r : Outcome) (memory : List ℕ) → Returned n (write a w) r memory →
+      (q : Read) (left : List ℕ) → Looked (machine (r .state) memory) b q left → q ≡ p
+  code-read-other a w b d f p kept before r memory back q left look =
+      look .result
+      ∙ ap (λ (k : Machine). readOf k b) (stepped n (write a w) r memory back)
+      ∙ subst (λ (k : Machine). readOf (step k (write a w)) b ≡ readOf k b) (sym (rehearsed l n h)) (read-other (listOf l) a w b d f)
+      ∙ sym (before .result)
 
--- two rehearsals, each cut anywhere with the same own part for c before the cut: c shows the same
-pub code-alike : (c : ℕ) → c < 128 → (l m : List Act) (l₂ m₂ : List Call) (n k : Machine) → Rehearsed l n → Rehearsed m k →
+-- two rehearsals that are beginnings of two lists, with the same own part for c so far: c shows the same
+pub code-alike-cut : (c : ℕ) → c < 128 → (l m : List Act) (l₂ m₂ : List Call) (n k : Machine) → Rehearsed l n → Rehearsed m k →
     ownPart (ownLines c (listOf l ++ l₂)) c (listOf l) ≡ ownPart (ownLines c (listOf m ++ m₂)) c (listOf m) → shows c n ≡ shows c k
-code-alike c b l m l₂ m₂ n k h g e =
+code-alike-cut c b l m l₂ m₂ n k h g e =
     ap (shows c) (rehearsed l n h) ∙ alike-cut c b (listOf l) l₂ (listOf m) m₂ e ∙ sym (ap (shows c) (rehearsed m k g))
 
 -- a refused call leaves what the table says, for every crate and memory
@@ -106,6 +123,12 @@ module _ (m : Machine) (t : List ℕ) (budget : ℕ) (p : Progress) (memory : Li
 
   pub code-run-halts : p .going ≡ false
   code-run-halts = ap (λ (r : Run). r .progress .going) (ran .result) ∙ run-halts t budget m
+
+  pub code-run-stops : isWhole (m .memory) ≡ true → onceOf t budget (run p memory) ≡ run p memory
+  code-run-stops e = subst (λ (r : Run). onceOf t budget r ≡ r) (sym (ran .result)) (run-stops t budget m e)
+
+  pub code-run-sound : Sound t budget (p .report)
+  code-run-sound = subst (λ (r : Run). Sound t budget (r .progress .report)) (sym (ran .result)) (run-sound t budget m)
 
   pub code-run-records : p .report .records ≡ length (passedIn t budget m)
   code-run-records = ap (λ (r : Run). r .progress .report .records) (ran .result) ∙ run-records t budget m

@@ -1,12 +1,13 @@
 -- The theorems about lists of calls, with their full statements. Each is proved by the file that it cites.
 use Prim.Native.Nat.{ℕ, _+_, _*_, _≤_, _<_}
 use native.Mathlib.Nat.{zero-add}
-use mathlib.Core.Bool.{false}
+use mathlib.Core.Bool.{true, false}
 use mathlib.Core.List.{List, _++_}
 use mathlib.Core.Option.{some}
 use mathlib.Core.Path.{_≡_, _∙_}
 use lib.ListN.{length}
 use Rattle.loader.specs.declared.loader.Request.{Request}
+use Rattle.loader.specs.Memory.{isWhole}
 use Rattle.registers.specs.declared.answer.Answer.the-variants.{Done}
 use Rattle.registers.specs.Answer.{isDone}
 use Rattle.registers.specs.Calls.{Call, write, acceptedTicks, after, answer, from, leftByRefusal, refusals, step}
@@ -15,20 +16,19 @@ use Rattle.registers.specs.Read.{readBy, readOf}
 use Rattle.registers.specs.State.{Machine}
 use Rattle.registers.proofs.Refused as refusing
 use Rattle.trace.specs.Passed.{callsIn, passedIn}
-use Rattle.trace.specs.Run.{machineOf, runOf}
+use Rattle.trace.specs.Run.{machineOf, onceOf, runOf}
+use Rattle.trace.specs.Sound.{Sound}
 use Rattle.trace.proofs.Halts as halting
 use Rattle.trace.proofs.Listed as listing
 use Rattle.sheet.specs.Follows.{follows}
-use Rattle.sheet.specs.Lines.{Lines, ownLines}
-use Rattle.sheet.specs.OwnPart.{ownPart, ownPartOf}
+use Rattle.sheet.specs.Lines.{Holds, Lines, ownLines}
+use Rattle.sheet.specs.OwnPart.{Cut, ownPart, ownPartOf}
 use Rattle.sheet.specs.Reachable.{OfWords, Reached}
 use Rattle.sheet.specs.Requests.{Stands, finished, requestMade, standAfter, waits}
 use Rattle.sheet.specs.Sheet.{sheetAfter, sheetShows}
 use Rattle.sheet.specs.Shows.{shows}
 use Rattle.sheet.proofs.Finishes as finishing
 use Rattle.sheet.proofs.Isolation as isolating
-use Rattle.sheet.proofs.Isolation.{Cut}
-use Rattle.sheet.proofs.Kept.{Holds}
 use Rattle.sheet.proofs.ReadBack as reading
 use Rattle.sheet.proofs.Reached as reaching
 
@@ -89,9 +89,17 @@ module _ (t : List ℕ) (budget : ℕ) (m : Machine) where
   pub run-is-list : machineOf (runOf t budget m) ≡ from m (callsIn (passedIn t budget m))
   run-is-list = listing.run-is-list t budget m .state
 
-  -- it ends with a stop cause
+  -- it ends: the turns of `runOf` are enough
   pub run-halts : runOf t budget m .progress .going ≡ false
   run-halts = halting.run-halts t budget m
+
+  -- the record at the next offset is the one that stops it, by the cause that is reported: taken once more it changes nothing
+  pub run-stops : isWhole (m .memory) ≡ true → onceOf t budget (runOf t budget m) ≡ runOf t budget m
+  run-stops = halting.run-stops t budget m
+
+  -- next offset within the trace, records and refusals no more than that, ticks within the budget
+  pub run-sound : Sound t budget (runOf t budget m .progress .report)
+  run-sound = halting.run-sound t budget m
 
   pub run-records : runOf t budget m .progress .report .records ≡ length (passedIn t budget m)
   run-records = listing.run-is-list t budget m .records ∙ zero-add (length (passedIn t budget m))

@@ -1,8 +1,9 @@
 -- Document 01, "The one-counter sheet": counter c's own lines.
 -- In: a counter and a list of calls. Out: a set of inputs and a set of gates.
 use Prim.Native.Nat.{ℕ}
-use mathlib.Core.Bool.{Bool, false, _&&_, _||_}
+use mathlib.Core.Bool.{Bool, true, false, _&&_, _||_}
 use mathlib.Core.List.{List, [], _∷_}
+use mathlib.Core.Path.{_≡_}
 use lib.Dec.{eqb, ltb}
 use Rattle.words.specs.Pick.{pick}
 use Rattle.counters.specs.Counter.{downOf, gateOf, upOf}
@@ -57,3 +58,8 @@ linesIn c (download d words) = noLines
 unfoldable pub ownLines : ℕ → List Call → Lines
 ownLines c [] = noLines
 ownLines c (x ∷ l) = join (linesIn c x) (ownLines c l)
+
+-- S has the lines of T
+pub record Holds (S T : Lines) : Type 0 where
+  pub inputs : (i : ℕ) → T .inputs i ≡ true → S .inputs i ≡ true
+  pub gates : (g : ℕ) → T .gates g ≡ true → S .gates g ≡ true

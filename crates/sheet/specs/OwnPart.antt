@@ -2,8 +2,9 @@
 -- In: own lines S, a counter, a list of calls. Out: the list of what the sheet is fed. Bits of other lines are 0 in it.
 use Prim.Native.Nat.{ℕ, _+_, _*_, _/_, _%_}
 use mathlib.Core.Bool.{Bool, _||_}
-use mathlib.Core.List.{List, [], _∷_}
+use mathlib.Core.List.{List, [], _∷_, _++_}
 use mathlib.Core.Option.{Option, none, some}
+use mathlib.Core.Path.{_≡_}
 use lib.Dec.{eqb}
 use lib.ListN.{getD, length}
 use Rattle.words.specs.Pick.{pick}
@@ -92,3 +93,10 @@ ownPart S c (x ∷ l) = added (own S c x) (ownPart S c l)
 -- "c's own part of a list"
 abbrev pub ownPartOf : ℕ → List Call → List Part
 ownPartOf c l = ownPart (ownLines c l) c l
+
+-- a list cut behind a beginning of its own part
+pub record Cut (S : Lines) (c : ℕ) (l : List Call) (parts : List Part) : Type 0 where
+  pub first : List Call
+  pub rest : List Call
+  pub whole : l ≡ first ++ rest
+  pub part : ownPart S c first ≡ parts

@@ -1,44 +1,60 @@
--- What holds of crates and memories that went through the library's functions, by the contracts of those functions alone.
+-- Document 01, "The one-counter sheet": lists of calls, of the code. What holds of crates and memories that went through the library's
+-- functions, by the contracts of those functions alone.
 use Prim.Native.Nat.{ℕ}
 use mathlib.Core.Bool.{true}
 use mathlib.Core.List.{List, [], _∷_, _++_}
 use mathlib.Core.Path.{_≡_}
 use Rattle.loader.specs.Memory.{isWhole}
 use Rattle.registers.specs.declared.answer.Outcome.{Outcome}
+use Rattle.registers.specs.declared.answer.Read.{Read}
 use Rattle.registers.specs.Calls.{Call, from, machine0, outcomeOf, powered, poweredMemory, step}
+use Rattle.registers.specs.Read.{readOf}
 use Rattle.registers.specs.State.{Machine, machine}
 use Rattle.trace.specs.declared.Progress.{Progress}
 use Rattle.trace.specs.Passed.{callsIn, passedIn}
 use Rattle.trace.specs.Run.{run, runOf}
+
+-- `power_up` on a memory returned r and left this one: its contract, word for word
+pub record Powered (memory : List ℕ) (r : Outcome) (left : List ℕ) : Type 0 where
+  pub result : r ≡ powered memory
+  pub cleared : left ≡ poweredMemory memory
 
 -- a call on crate and memory m returned r and left this memory: the contract of `tick`, `write`, `tag` and `download`, word for word
 pub record Returned (m : Machine) (x : Call) (r : Outcome) (memory : List ℕ) : Type 0 where
   pub result : r ≡ outcomeOf m x
   pub left : memory ≡ step m x .memory
 
+-- a read of address a returned q and left this memory: the contract of `read`, word for word
+pub record Looked (m : Machine) (a : ℕ) (q : Read) (memory : List ℕ) : Type 0 where
+  pub result : q ≡ readOf m a
+  pub left : memory ≡ m .memory
+
 -- a run of trace t returned p and left this memory: the contract of `run`, word for word
 pub record Ran (m : Machine) (t : List ℕ) (budget : ℕ) (p : Progress) (memory : List ℕ) : Type 0 where
   pub result : run p memory ≡ runOf t budget m
 
--- what is done with a crate: a call, or the run of a trace with a budget
+-- what is done with a crate: a call, a read, or the run of a trace with a budget
 pub data Act : Type 0 where
   calling : Call → Act
+  reading : ℕ → Act
   tracing : List ℕ → ℕ → Act
 
--- one after the other, each given the crate that the last returned and the memory that it left
+-- "Each call gets both as the last one left them, and only its calls change them": a read hands the crate on as it was
 unfoldable pub Went : Machine → List Act → Machine → Type 0
 Went m [] n = n ≡ m
 Went m (calling x ∷ l) n = (r : Outcome) × (memory : List ℕ) × Returned m x r memory × Went (machine (r .state) memory) l n
+Went m (reading a ∷ l) n = (q : Read) × (memory : List ℕ) × Looked m a q memory × Went (machine (m .state) memory) l n
 Went m (tracing t budget ∷ l) n = (p : Progress) × (memory : List ℕ) × Ran m t budget p memory × Went (machine (p .state) memory) l n
 
--- crate and memory n after `power_up` on a memory of 16,384 words, by its contract, and then all of l
+-- "A list .. starts at power-up and runs on one crate and one memory of 16,384 words": crate and memory n after `power_up` and all of l
 unfoldable pub Rehearsed : List Act → Machine → Type 0
-Rehearsed l n = (memory : List ℕ) × (isWhole memory ≡ true) × Went (machine (powered memory .state) (poweredMemory memory)) l n
+Rehearsed l n = (memory : List ℕ) × (isWhole memory ≡ true) × (r : Outcome) × (left : List ℕ) × Powered memory r left × Went (machine (r .state) left) l n
 
--- the list of calls: "a trace run stands in it for the calls of the records it passes"
+-- the list of calls: "a trace run stands in it for the calls of the records it passes"; reads change nothing and drop out
 unfoldable pub listFrom : Machine → List Act → List Call
 listFrom m [] = []
 listFrom m (calling x ∷ l) = x ∷ listFrom (step m x) l
+listFrom m (reading a ∷ l) = listFrom m l
 listFrom m (tracing t budget ∷ l) = callsIn (passedIn t budget m) ++ listFrom (from m (callsIn (passedIn t budget m))) l
 
 unfoldable pub listOf : List Act → List Call

@@ -51,7 +51,7 @@ runOn m r going = run (progressOf (m .state) r going) (m .memory)
 abbrev pub machineOf : Run → Machine
 machineOf r = machine (r .progress .state) (r .memory)
 
--- "A run stops": crate and memory stay, and so do next offset, ticks and records
+-- "A run stops": crate and memory stay, and so do next offset, ticks, records and refusals
 abbrev pub stopped : Report → Stop → Report
 stopped r stop = reportOf stop (r .next) (r .ticks) (r .records) (r .refused)
 

@@ -1,4 +1,7 @@
 // Traces: records of calls, the run of a trace with a budget of ticks, and its report.
+ghost use mathlib.Core.Path.{_≡_};
+ghost use Rattle.trace.specs.Run.{stopNumber};
+
 mod records;
 mod running;
 
@@ -15,6 +18,23 @@ pub enum Stop {
     WrongLength,
     Cut,
     NoRepeat,
+}
+
+impl Stop {
+    // The number of the table of causes, 0 for END and SPENT, which are no refusals.
+    pub fn number(self) -> u16
+        ensures { λ r. ⌜ r ≡ stopNumber self ⌝ }
+    {
+        match self {
+            Stop::End => 0,
+            Stop::Spent => 0,
+            Stop::Memory => 1,
+            Stop::UnknownTag => 7,
+            Stop::WrongLength => 8,
+            Stop::Cut => 9,
+            Stop::NoRepeat => 10,
+        }
+    }
 }
 
 // What stands at an offset of a trace: nothing, a malformed record, or a record.

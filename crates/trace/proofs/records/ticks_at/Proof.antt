@@ -9,7 +9,7 @@ use Rattle.trace.proofs.records.ticks_at.Tie as tie
 
 returns : tie.Need-returns
 unfolding ticksAt
-returns c = rw (← c .before .number-at .ensures .0, eq-eqb _ _ (c .if1 .taken))
+returns c = rw (← c .before .number-at .ensures .0, eq-eqb (c .before .number-at .result) 0 (c .if1 .taken))
 
 returns-2 : tie.Need-returns-2
 unfolding ticksAt
@@ -17,7 +17,7 @@ returns-2 c =
     let e = c .before .before in
     let a = e .before .before .before .args in
     let inputs : c .before .number-at2 .result ≡ numberAt (a .t .now) (a .at + a .width) 7 = c .before .number-at2 .ensures .0 in
-    rw (← e .before .number-at .ensures .0, ne-eqb _ _ (e .if1 .left), inputs, ← c .word-at .ensures)
+    rw (← e .before .number-at .ensures .0, ne-eqb (e .before .number-at .result) 0 (e .if1 .left), inputs, ← c .word-at .ensures)
 
 pub ticks-at-spec : {M : Type 1} → statement M
 ticks-at-spec =

@@ -4,8 +4,8 @@ use mathlib.Core.Path.{_≡_, sym}
 use borrow.Author.Needs.{needs}
 use lib.ListN.{length}
 use lib.Seq.{length-take-le}
-use Rattle.run_checks.proofs.write.Statement.{statement}
-use Rattle.run_checks.proofs.write.Tie as tie
+use Rattle.run_checks.proofs.page.write.Statement.{statement}
+use Rattle.run_checks.proofs.page.write.Tie as tie
 
 array-share-prefix-bytes : tie.Need-array-share-prefix-bytes
 array-share-prefix-bytes c =

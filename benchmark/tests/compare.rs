@@ -1,0 +1,58 @@
+//! The crate in place against the reference model, on random traces.
+use benchmark::inplace::run;
+use mirvacula::{Stop, MEMORY_WORDS};
+use reference::generator;
+use reference::trace::{from_power_up, Stop as Expected};
+
+/// How many random traces: `TRACES=n` sets another number.
+fn traces() -> u64 {
+    std::env::var("TRACES").ok().and_then(|n| n.parse().ok()).unwrap_or(10_000)
+}
+
+fn same_stop(stop: Stop, expected: Expected) -> bool {
+    match (stop, expected) {
+        (Stop::End, Expected::End) | (Stop::Spent, Expected::Spent) => true,
+        (Stop::Refused(cause), Expected::Refused(number)) => cause == u16::from(number),
+        _ => false,
+    }
+}
+
+fn compare(seed: u64) -> Result<(), String> {
+    let (bytes, budget) = (generator::trace(seed), generator::budget(seed));
+    let mut memory = vec![0xAAAA; MEMORY_WORDS];
+    let (r, image) = run(&mut memory, &bytes, budget);
+    let (device, expected_memory, expected) = from_power_up(&bytes, budget);
+    if !same_stop(r.stop, expected.stop) {
+        return Err(format!("seed {seed}: stop {:?}, expected {:?}", r.stop, expected.stop));
+    }
+    let counts = [r.next, r.ticks, r.records, r.refused];
+    let wanted = [expected.next, expected.ticks, expected.records, expected.refused];
+    if counts != wanted {
+        return Err(format!("seed {seed}: next, ticks, records, refused {counts:?}, expected {wanted:?}"));
+    }
+    if image != reference::image(&device, &expected_memory) {
+        return Err(format!("seed {seed}: a register differs"));
+    }
+    if memory != expected_memory[..] {
+        return Err(format!("seed {seed}: a memory word differs"));
+    }
+    Ok(())
+}
+
+#[test]
+fn random_traces_agree() {
+    let differences: Vec<String> = (0..traces()).filter_map(|seed| compare(seed).err()).collect();
+    assert!(differences.is_empty(), "{} differences:\n{}", differences.len(), differences.join("\n"));
+}
+
+#[test]
+fn a_memory_of_another_length_is_refused_and_left() {
+    for words in [0, 1, 16_383, 16_385] {
+        let mut memory = vec![0x5555; words];
+        let (report, image) = run(&mut memory, &[2, 0, 4, 0x80, 0, 0, 1], 10);
+        assert_eq!(report.stop, Stop::Refused(1));
+        assert_eq!(report.records, 0);
+        assert!(image.len() == 5_120 && image.iter().all(|word| *word == 0));
+        assert!(memory.iter().all(|word| *word == 0x5555));
+    }
+}

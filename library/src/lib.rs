@@ -1,0 +1,92 @@
+//! Rehearses a patching of a beam loss counter crate: a trace is run from power-up, and its report and the registers
+//! that it leaves are handed back.
+
+pub const MEMORY_WORDS: usize = 16_384;
+pub const IMAGE_START: u16 = 0x0600;
+const IMAGE_WORDS: usize = 5_120;
+const REPORT_WORDS: usize = 5;
+const SPENT: u16 = 254;
+
+extern "C" {
+    fn mirvacula_run(
+        memory: *mut u16,
+        memory_words: usize,
+        trace: *const u8,
+        trace_bytes: usize,
+        budget: u64,
+        report: *mut u64,
+        report_words: usize,
+        image: *mut u16,
+        image_words: usize,
+    ) -> u16;
+}
+
+/// Why a run stopped.
+#[derive(Clone, Copy, Debug, PartialEq, Eq)]
+pub enum Stop {
+    /// The end of the trace.
+    End,
+    /// A tick record exceeds the ticks left.
+    Spent,
+    /// A refusal: 1 for a memory that is not of 16,384 words, 7 to 10 for a malformed record.
+    Refused(u16),
+}
+
+/// What a run reports.
+#[derive(Clone, Copy, Debug, PartialEq, Eq)]
+pub struct Report {
+    pub stop: Stop,
+    /// Offset of the next record.
+    pub next: u64,
+    pub ticks: u64,
+    /// Records passed, refused ones included.
+    pub records: u64,
+    pub refused: u64,
+}
+
+/// A report and the registers that the run leaves.
+#[derive(Clone, Debug, PartialEq, Eq)]
+pub struct Rehearsal {
+    pub report: Report,
+    image: Vec<u16>,
+}
+
+impl Rehearsal {
+    /// The words of the registers from 0x0600 to 0x19FF, 0 where a read is refused.
+    pub fn image(&self) -> &[u16] {
+        &self.image
+    }
+
+    /// The word of a register below the threshold memory; `None` outside 0x0600 to 0x19FF.
+    pub fn register(&self, address: u16) -> Option<u16> {
+        let place = address.checked_sub(IMAGE_START)?;
+        self.image.get(usize::from(place)).copied()
+    }
+}
+
+/// Powers up a crate on the lent memory (which is cleared) and runs the trace with a budget of ticks.
+pub fn run(memory: &mut [u16], trace: &[u8], budget: u64) -> Rehearsal {
+    let mut report = [0; REPORT_WORDS];
+    let mut image = vec![0; IMAGE_WORDS];
+    // SAFETY: each pointer comes from a slice that is borrowed for the call, with its length; none of them overlap.
+    let stop = unsafe {
+        mirvacula_run(
+            memory.as_mut_ptr(),
+            memory.len(),
+            trace.as_ptr(),
+            trace.len(),
+            budget,
+            report.as_mut_ptr(),
+            report.len(),
+            image.as_mut_ptr(),
+            image.len(),
+        )
+    };
+    let stop = match stop {
+        0 => Stop::End,
+        SPENT => Stop::Spent,
+        cause => Stop::Refused(cause),
+    };
+    let [_, next, ticks, records, refused] = report;
+    Rehearsal { report: Report { stop, next, ticks, records, refused }, image }
+}
