@@ -1,3 +1,4 @@
+pub mod Contracts
 pub mod Fed
 pub mod Finishes
 pub mod InRange

@@ -23,7 +23,7 @@ use Rattle.trace.specs.Run.{Run, machineOf, onceOf, run}
 use Rattle.trace.specs.Sound.{Sound}
 use Rattle.sheet.specs.Follows.{follows}
 use Rattle.sheet.specs.Lines.{ownLines}
-use Rattle.sheet.specs.OwnPart.{ownPart, ownPartOf}
+use Rattle.sheet.specs.OwnPart.{Part, ownPart, ownPartOf}
 use Rattle.sheet.specs.Reachable.{OfWords, Reached}
 use Rattle.sheet.specs.Requests.{finished, requestMade, standAfter, waits}
 use Rattle.sheet.specs.Returned.{Act, calling, reading, tracing, Looked, Powered, Ran, Rehearsed, Returned, Went, listFrom, listOf}
@@ -33,11 +33,11 @@ use Rattle.sheet.proofs.Theorems.{alike-cut, finishes, isolation, reach
 
 -- one call, one run
 stepped : (m : Machine) (x : Call) (r : Outcome) (memory : List ℕ) → Returned m x r memory → machine (r .state) memory ≡ step m x
-stepped m x r memory back i = machine ((back .result i) .state) (back .left i)
+stepped m x r memory back i = machine ((back .0 i) .state) (back .1 i)
 
 traced : (m : Machine) (t : List ℕ) (budget : ℕ) (p : Progress) (memory : List ℕ) → Ran m t budget p memory →
     machine (p .state) memory ≡ from m (callsIn (passedIn t budget m))
-traced m t budget p memory ran = ap machineOf (ran .result) ∙ run-is-list t budget m
+traced m t budget p memory ran = ap machineOf (ran) ∙ run-is-list t budget m
 
 -- one after the other
 went : (m : Machine) (l : List Act) (n : Machine) → Went m l n → n ≡ from m (listFrom m l)
@@ -47,7 +47,7 @@ went m (calling x ∷ l) n w =
     went (machine (w .0 .state) (w .1)) l n (w .3)
     ∙ ap (λ (k : Machine). from k (listFrom k l)) (stepped m x (w .0) (w .1) (w .2))
 went m (reading a ∷ l) n w =
-    went (machine (m .state) (w .1)) l n (w .3) ∙ ap (λ (memory : List ℕ). from (machine (m .state) memory) (listFrom (machine (m .state) memory) l)) (w .2 .left)
+    went (machine (m .state) (w .1)) l n (w .3) ∙ ap (λ (memory : List ℕ). from (machine (m .state) memory) (listFrom (machine (m .state) memory) l)) (w .2 .1)
 went m (tracing t budget ∷ l) n w =
     went (machine (w .0 .state) (w .1)) l n (w .3)
     ∙ ap (λ (k : Machine). from k (listFrom k l)) (traced m t budget (w .0) (w .1) (w .2))
@@ -56,7 +56,7 @@ went m (tracing t budget ∷ l) n w =
 -- power-up on a memory of 16,384 words
 powered-up : (memory : List ℕ) → isWhole memory ≡ true → (r : Outcome) (left : List ℕ) → Powered memory r left → machine (r .state) left ≡ machine0
 unfolding powered poweredMemory
-powered-up memory e r left up = (λ i. machine ((up .result i) .state) (up .cleared i)) ∙ rw e
+powered-up memory e r left up = (λ i. machine ((up .0 i) .state) (up .1 i)) ∙ rw e
 
 -- what went through power-up, calls and runs is what `after` says of the list of calls
 pub rehearsed : (l : List Act) (n : Machine) → Rehearsed l n → n ≡ after (listOf l)
@@ -72,37 +72,53 @@ module _ (l : List Act) (n : Machine) (h : Rehearsed l n) where
   pub code-reachable : OfWords (listOf l) → Reached n
   code-reachable o = subst Reached (sym (rehearsed l n h)) (reachable (listOf l) o)
 
-  pub code-finishes : (x : Call) (r : Request) → requestMade n x ≡ some r →
+  finishes-from : (x : Call) (q : Request) → requestMade n x ≡ some q →
       (more : List Call) → 128 + 129 * (n .state .common .queue .waiting + 1) ≤ acceptedTicks more →
       standAfter (step n x) more (waits (n .state .common .queue .waiting)) ≡ finished
-  code-finishes x r =
+  finishes-from x q =
       subst
-      (λ (k : Machine). requestMade k x ≡ some r → (more : List Call) → 128 + 129 * (k .state .common .queue .waiting + 1) ≤ acceptedTicks more →
+      (λ (k : Machine). requestMade k x ≡ some q → (more : List Call) → 128 + 129 * (k .state .common .queue .waiting + 1) ≤ acceptedTicks more →
       standAfter (step k x) more (waits (k .state .common .queue .waiting)) ≡ finished)
-      (sym (rehearsed l n h)) (finishes (listOf l) x r)
+      (sym (rehearsed l n h)) (finishes (listOf l) x q)
+
+  -- a request that a call made, and whatever is done after it
+  pub code-finishes : (x : Call) (q : Request) → requestMade n x ≡ some q → (r : Outcome) (memory : List ℕ) → Returned n x r memory →
+      (more : List Act) → 128 + 129 * (n .state .common .queue .waiting + 1) ≤ acceptedTicks (listFrom (machine (r .state) memory) more) →
+      standAfter (machine (r .state) memory) (listFrom (machine (r .state) memory) more) (waits (n .state .common .queue .waiting)) ≡ finished
+  code-finishes x q made r memory back more =
+      subst
+      (λ (k : Machine). 128 + 129 * (n .state .common .queue .waiting + 1) ≤ acceptedTicks (listFrom k more) →
+      standAfter k (listFrom k more) (waits (n .state .common .queue .waiting)) ≡ finished)
+      (sym (stepped n x r memory back)) (finishes-from x q made (listFrom (step n x) more))
 
   -- what a read after the list returns
   pub code-read : (a : ℕ) (q : Read) (memory : List ℕ) → Looked n a q memory → q ≡ readOf (after (listOf l)) a
-  code-read a q memory look = look .result ∙ ap (λ (k : Machine). readOf k a) (rehearsed l n h)
+  code-read a q memory look = look .0 ∙ ap (λ (k : Machine). readOf k a) (rehearsed l n h)
 
   -- a write that `write` accepted, and a read after it
   pub code-read-back : (a w : ℕ) (r : Outcome) (memory : List ℕ) → Returned n (write a w) r memory → r .answer ≡ Done →
       (q : Read) (left : List ℕ) → Looked (machine (r .state) memory) a q left → q ≡ readBy Done (kept (decodeOf a) w)
   code-read-back a w r memory back e q left look =
-      look .result
+      look .0
       ∙ ap (λ (k : Machine). readOf k a) (stepped n (write a w) r memory back)
       ∙ subst (λ (k : Machine). answer k (write a w) ≡ Done → readOf (step k (write a w)) a ≡ readBy Done (kept (decodeOf a) w))
-      (sym (rehearsed l n h)) (read-back (listOf l) a w) (sym (ap (λ (o : Outcome). o .answer) (back .result)) ∙ e)
+      (sym (rehearsed l n h)) (read-back (listOf l) a w) (sym (ap (λ (o : Outcome). o .answer) (back .0)) ∙ e)
 
   -- two reads of another register, before a write and after it
   pub code-read-other : (a w b : ℕ) → (decodeOf a ≡ decodeOf b → ⊥) → follows (decodeOf a) (decodeOf b) ≡ false →
       (p : Read) (kept : List ℕ) → Looked n b p kept → (r : Outcome) (memory : List ℕ) → Returned n (write a w) r memory →
       (q : Read) (left : List ℕ) → Looked (machine (r .state) memory) b q left → q ≡ p
   code-read-other a w b d f p kept before r memory back q left look =
-      look .result
+      look .0
       ∙ ap (λ (k : Machine). readOf k b) (stepped n (write a w) r memory back)
       ∙ subst (λ (k : Machine). readOf (step k (write a w)) b ≡ readOf k b) (sym (rehearsed l n h)) (read-other (listOf l) a w b d f)
-      ∙ sym (before .result)
+      ∙ sym (before .0)
+
+-- two rehearsals with the same own part for c: c shows the same
+pub code-alike : (c : ℕ) → c < 128 → (l m : List Act) (n k : Machine) → Rehearsed l n → Rehearsed m k →
+    ownPartOf c (listOf l) ≡ ownPartOf c (listOf m) → shows c n ≡ shows c k
+code-alike c b l m n k h g e =
+    code-isolation l n h c b ∙ ap (λ (parts : List Part). sheetShows (sheetAfter c parts)) e ∙ sym (code-isolation m k g c b)
 
 -- two rehearsals that are beginnings of two lists, with the same own part for c so far: c shows the same
 pub code-alike-cut : (c : ℕ) → c < 128 → (l m : List Act) (l₂ m₂ : List Call) (n k : Machine) → Rehearsed l n → Rehearsed m k →
@@ -114,7 +130,7 @@ code-alike-cut c b l m l₂ m₂ n k h g e =
 pub code-refused : (m : Machine) (x : Call) (r : Outcome) (memory : List ℕ) → Returned m x r memory → isDone (r .answer) ≡ false →
     machine (r .state) memory ≡ leftByRefusal m x
 code-refused m x r memory back e =
-    stepped m x r memory back ∙ refused m x (sym (ap (λ (o : Outcome). isDone (o .answer)) (back .result)) ∙ e)
+    stepped m x r memory back ∙ refused m x (sym (ap (λ (o : Outcome). isDone (o .answer)) (back .0)) ∙ e)
 
 -- a run hands back a report that has stopped, with the counts over the calls of the records that it passed, for every crate and memory
 module _ (m : Machine) (t : List ℕ) (budget : ℕ) (p : Progress) (memory : List ℕ) (ran : Ran m t budget p memory) where
@@ -122,19 +138,19 @@ module _ (m : Machine) (t : List ℕ) (budget : ℕ) (p : Progress) (memory : Li
   calls = callsIn (passedIn t budget m)
 
   pub code-run-halts : p .going ≡ false
-  code-run-halts = ap (λ (r : Run). r .progress .going) (ran .result) ∙ run-halts t budget m
+  code-run-halts = ap (λ (r : Run). r .progress .going) (ran) ∙ run-halts t budget m
 
   pub code-run-stops : isWhole (m .memory) ≡ true → onceOf t budget (run p memory) ≡ run p memory
-  code-run-stops e = subst (λ (r : Run). onceOf t budget r ≡ r) (sym (ran .result)) (run-stops t budget m e)
+  code-run-stops e = subst (λ (r : Run). onceOf t budget r ≡ r) (sym (ran)) (run-stops t budget m e)
 
   pub code-run-sound : Sound t budget (p .report)
-  code-run-sound = subst (λ (r : Run). Sound t budget (r .progress .report)) (sym (ran .result)) (run-sound t budget m)
+  code-run-sound = subst (λ (r : Run). Sound t budget (r .progress .report)) (sym (ran)) (run-sound t budget m)
 
   pub code-run-records : p .report .records ≡ length (passedIn t budget m)
-  code-run-records = ap (λ (r : Run). r .progress .report .records) (ran .result) ∙ run-records t budget m
+  code-run-records = ap (λ (r : Run). r .progress .report .records) (ran) ∙ run-records t budget m
 
   pub code-run-ticks : p .report .ticks ≡ acceptedTicks calls
-  code-run-ticks = ap (λ (r : Run). r .progress .report .ticks) (ran .result) ∙ run-ticks t budget m
+  code-run-ticks = ap (λ (r : Run). r .progress .report .ticks) (ran) ∙ run-ticks t budget m
 
   pub code-run-refusals : p .report .refused ≡ refusals m calls
-  code-run-refusals = ap (λ (r : Run). r .progress .report .refused) (ran .result) ∙ run-refusals t budget m
+  code-run-refusals = ap (λ (r : Run). r .progress .report .refused) (ran) ∙ run-refusals t budget m

@@ -14,24 +14,23 @@ use Rattle.trace.specs.declared.Progress.{Progress}
 use Rattle.trace.specs.Passed.{callsIn, passedIn}
 use Rattle.trace.specs.Run.{run, runOf}
 
--- `power_up` on a memory returned r and left this one: its contract, word for word
-pub record Powered (memory : List ℕ) (r : Outcome) (left : List ℕ) : Type 0 where
-  pub result : r ≡ powered memory
-  pub cleared : left ≡ poweredMemory memory
+-- Each of the next four is the contract of its functions: proofs/Contracts.antt.
 
--- a call on crate and memory m returned r and left this memory: the contract of `tick`, `write`, `tag` and `download`, word for word
-pub record Returned (m : Machine) (x : Call) (r : Outcome) (memory : List ℕ) : Type 0 where
-  pub result : r ≡ outcomeOf m x
-  pub left : memory ≡ step m x .memory
+-- `power_up` on a memory returned r and left this one
+abbrev pub Powered : List ℕ → Outcome → List ℕ → Type 0
+Powered memory r left = (r ≡ powered memory) × (left ≡ poweredMemory memory)
 
--- a read of address a returned q and left this memory: the contract of `read`, word for word
-pub record Looked (m : Machine) (a : ℕ) (q : Read) (memory : List ℕ) : Type 0 where
-  pub result : q ≡ readOf m a
-  pub left : memory ≡ m .memory
+-- a call of `tick`, `write`, `tag` or `download` on crate and memory m returned r and left this memory
+abbrev pub Returned : Machine → Call → Outcome → List ℕ → Type 0
+Returned m x r memory = (r ≡ outcomeOf m x) × (memory ≡ step m x .memory)
 
--- a run of trace t returned p and left this memory: the contract of `run`, word for word
-pub record Ran (m : Machine) (t : List ℕ) (budget : ℕ) (p : Progress) (memory : List ℕ) : Type 0 where
-  pub result : run p memory ≡ runOf t budget m
+-- a `read` of address a returned q and left this memory
+abbrev pub Looked : Machine → ℕ → Read → List ℕ → Type 0
+Looked m a q memory = (q ≡ readOf m a) × (memory ≡ m .memory)
+
+-- a `run` of trace t returned p and left this memory
+abbrev pub Ran : Machine → List ℕ → ℕ → Progress → List ℕ → Type 0
+Ran m t budget p memory = run p memory ≡ runOf t budget m
 
 -- what is done with a crate: a call, a read, or the run of a trace with a budget
 pub data Act : Type 0 where
