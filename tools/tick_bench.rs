@@ -1,5 +1,5 @@
 // The crate in place, in plain Rust, stepped through the scenario of crates/tick_bench; prints the same digest.
-// Written from document 01, and not from the Rattle code. tools/tick_bench.py builds and times it.
+// Written from document 01 and request 1 of document 02, and not from the Rattle code. tools/tick_bench.py builds and times it.
 //
 // The scenario: power-up; counter n patched with UP n mod 54, DOWN (7 n + 3) mod 54, GATE n mod 12; all gates in
 // direct mode; then the ticks. x starts at 1 and becomes x * 6364136223846793005 + 1442695040888963407 mod 2^64
@@ -75,6 +75,7 @@ struct Crate {
     phases: [u32; 9],
     control: u16,
     watchdogs: [Watchdog; INPUTS],
+    raw_counts: [u32; INPUTS],
     timeout: u16,
     queue: VecDeque<Request>,
     loading: Option<Loading>,
@@ -162,6 +163,7 @@ impl Crate {
             phases: [0; 9],
             control: 0,
             watchdogs: [Watchdog { value: 0, error: false }; INPUTS],
+            raw_counts: [0; INPUTS],
             timeout: 65_535,
             queue: VecDeque::with_capacity(16),
             loading: None,
@@ -202,6 +204,12 @@ impl Crate {
         }
     }
 
+    fn tick_raw_counts(&mut self, rises: u64) {
+        for (i, count) in self.raw_counts.iter_mut().enumerate() {
+            *count = count.wrapping_add((rises >> i & 1) as u32);
+        }
+    }
+
     // An idle loader takes the oldest request, a busy one handles one counter.
     fn tick_loader(&mut self, mem: &[u16]) {
         let Some(loading) = &mut self.loading else {
@@ -236,6 +244,7 @@ impl Crate {
             c.tick(self.control, rises, open, opened);
         }
         self.tick_watchdogs(rises);
+        self.tick_raw_counts(rises);
         self.tick_loader(mem);
         self.levels = inputs;
         self.gate_levels = gates;

@@ -121,6 +121,7 @@ REGISTERS = [
     Register(INPUT, 0x107F, 0xFFFF, True, lambda k: f"input register of counter {k}"),
     *(register for output in range(OUTPUTS) for register in selection_registers(output)),
     Register(0x1200, 0x12FF, 0xFFFF, False, lambda k: f"count of counter {k // 2}, {('low', 'high')[k % 2]} word"),
+    Register(0x1300, 0x136B, 0xFFFF, False, lambda k: f"raw count of input {k // 2}, {('low', 'high')[k % 2]} word"),
     Register(GROUP, 0x161F, 0xFFFF, True, span("groups of counters", 4, COUNTERS)),
     Register(0x1800, 0x19FF, 0xFFFF, False, lambda k: f"loaded thresholds of counter {k // 4}"),
     Register(MEMORY, 0xBFFF, 0xFFFF, True, memory_name),

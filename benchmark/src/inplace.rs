@@ -44,7 +44,7 @@ impl Crate {
     pub fn power_up(memory: &mut Memory) -> Crate {
         memory.fill(0);
         Crate {
-            lines: Lines::default(),
+            lines: Lines::power_up(),
             gates: Gates::power_up(),
             counters: Counters::power_up(),
             watchdogs: Watchdogs::power_up(),

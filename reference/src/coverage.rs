@@ -64,9 +64,21 @@ enum Class {
     RecoverByRegister,
     TimeoutRunsOut,
     MemoryWritten,
+    WriteFirstRaw,
+    WriteLastRaw,
+    WriteAfterRaw,
+    RefusedTickWithRise,
+    RawOfHeldLevel,
+    RawUnderReset,
+    RawBehindClosedGate,
+    RawNotSelected,
+    RawAfterAutoreset,
+    RawAfterResetWrite,
+    RawAfterCommand,
+    RawAfterWatchdogReset,
 }
 
-const CLASSES: [(Class, &str); 46] = [
+const CLASSES: [(Class, &str); 58] = [
     (Class::WriteNotInMap, "refused 2, write"),
     (Class::WriteReadOnly, "refused 3, write"),
     (Class::WriteDataset, "refused 4, write"),
@@ -113,6 +125,18 @@ const CLASSES: [(Class, &str); 46] = [
     (Class::RecoverByRegister, "RECOVER reached by a register bit"),
     (Class::TimeoutRunsOut, "a timeout above 0 runs out"),
     (Class::MemoryWritten, "memory word written"),
+    (Class::WriteFirstRaw, "refused 3, write to 0x1300"),
+    (Class::WriteLastRaw, "refused 3, write to 0x136B"),
+    (Class::WriteAfterRaw, "refused 2, write to 0x136C"),
+    (Class::RefusedTickWithRise, "refused 6, an input high that was low"),
+    (Class::RawOfHeldLevel, "input stays high, raw count stays"),
+    (Class::RawUnderReset, "raw count gains while RESET is set"),
+    (Class::RawBehindClosedGate, "raw count gains, all counters of the input behind low gates"),
+    (Class::RawNotSelected, "raw count gains, no counter selects the input"),
+    (Class::RawAfterAutoreset, "AUTORESET clears a count, raw count above 0 of its input stays"),
+    (Class::RawAfterResetWrite, "RESET written clears a count, a raw count above 0 stays"),
+    (Class::RawAfterCommand, "command 0x4 clears a count, a raw count above 0 stays"),
+    (Class::RawAfterWatchdogReset, "watchdog cleared, raw count above 0 of its input stays"),
 ];
 
 pub struct Coverage {
@@ -128,6 +152,8 @@ pub struct Coverage {
     test_up: [u64; TEST_SIGNALS],
     test_down: [u64; TEST_SIGNALS],
     trips: [[u64; 5]; OUTPUTS],
+    /// Runs that end with a raw count above 0.
+    raw: [u64; INPUTS],
     budget: u64,
     ticks: u64,
     last: Option<Crate>,
@@ -169,6 +195,10 @@ impl Recorder for Coverage {
             self.hit_if(u64::from(repeat) == budget - report.ticks + 1, Class::SpentByOneTick);
         }
         self.hit_if(budget > 0 && report.ticks == budget, Class::BudgetUsedToTheLastTick);
+        let end = self.last.as_ref().expect("run_seed sets it");
+        for (n, raw) in self.raw.iter_mut().zip(end.raw_counts) {
+            *n += u64::from(raw.0 > 0);
+        }
     }
 }
 
@@ -179,12 +209,15 @@ impl Coverage {
         if answer == BAD_LEVEL {
             self.hit_if(inputs & !INPUT_BITS != 0, Class::TickBadInput);
             self.hit_if(gates & !GATE_BITS != 0, Class::TickBadGate);
+            let rises = inputs & !before.last_inputs & INPUT_BITS;
+            self.hit_if(rises != 0 && now.raw_counts == before.raw_counts, Class::RefusedTickWithRise);
             return;
         }
         self.ticks += 1;
         let rises = inputs & !before.last_inputs;
         self.gate_steps(before, now);
         self.counting(rises, before, now);
+        self.raw_counts(inputs, before, now);
         self.watchdogs(rises, before, now);
         self.loading(before, now);
     }
@@ -218,7 +251,31 @@ impl Coverage {
             let opened = !before.gates[gate].last_output;
             let autoreset = now.counters_control == 2 && opened && before.counters[n].count != 0;
             self.hit_if(autoreset, Class::AutoresetClears);
+            let raw = now.raw_counts.get(usize::from(up)).is_some_and(|raw| raw.0 > 0);
+            self.hit_if(autoreset && raw, Class::RawAfterAutoreset);
         }
+    }
+
+    /// High words stay 0 here: 65,536 rises do not fit a trace of 65,536 bytes.
+    fn raw_counts(&mut self, inputs: u64, before: &Crate, now: &Crate) {
+        let held = inputs & before.last_inputs;
+        for i in 0..INPUTS {
+            let gain = now.raw_counts[i].0.wrapping_sub(before.raw_counts[i].0);
+            self.hit_if(gain == 0 && held >> i & 1 == 1, Class::RawOfHeldLevel);
+            if gain == 1 {
+                self.one_raw_count(i, now);
+            }
+        }
+    }
+
+    /// Input i rises.
+    fn one_raw_count(&mut self, i: usize, now: &Crate) {
+        let selecting: Vec<u16> = now.input.into_iter().filter(|word| selects(*word, i)).collect();
+        let gates = selecting.iter().map(|word| gate_selection(*word));
+        let open = gates.filter(|gate| *gate < GATES && now.gates[*gate].last_output).count();
+        self.hit_if(now.counters_control & 1 != 0, Class::RawUnderReset);
+        self.hit_if(selecting.is_empty(), Class::RawNotSelected);
+        self.hit_if(!selecting.is_empty() && open == 0, Class::RawBehindClosedGate);
     }
 
     /// Counter n with its gate open.
@@ -279,10 +336,23 @@ impl Coverage {
         self.hit_if(address >= 0x8000 && answer == ACCEPTED, Class::MemoryWritten);
         let errors = |device: &Crate| device.watchdogs.iter().filter(|w| w.error).count();
         self.hit_if(errors(now) < errors(before), Class::WatchdogCleared);
-        self.hit_if(address == 0x0801 && counted(before) && !counted(now), Class::ResetWriteClears);
+        let reset = address == 0x0801 && counted(before) && !counted(now);
+        self.hit_if(reset, Class::ResetWriteClears);
+        self.hit_if(reset && raw_counted(now), Class::RawAfterResetWrite);
+        self.raw_at_write(answer, address, before, now);
         if (0x1000..0x1080).contains(&address) {
             self.patched(usize::from(address - 0x1000), now);
         }
+    }
+
+    /// The ends of the raw counts' block, and a watchdog's reset.
+    fn raw_at_write(&mut self, answer: u8, address: u16, before: &Crate, now: &Crate) {
+        self.hit_if(answer == READ_ONLY && address == 0x1300, Class::WriteFirstRaw);
+        self.hit_if(answer == READ_ONLY && address == 0x136B, Class::WriteLastRaw);
+        self.hit_if(answer == NOT_IN_MAP && address == 0x136C, Class::WriteAfterRaw);
+        let cleared = |i: usize| before.watchdogs[i].error && !now.watchdogs[i].error;
+        let raw = (0..INPUTS).any(|i| cleared(i) && now.raw_counts[i].0 > 0);
+        self.hit_if(raw, Class::RawAfterWatchdogReset);
     }
 
     fn patched(&mut self, n: usize, now: &Crate) {
@@ -303,7 +373,9 @@ impl Coverage {
         self.commands[command][column] += 1;
         self.hit_if(answer == DATASET_ABOVE_31, Class::TagDataset);
         self.hit_if(answer == QUEUE_FULL, Class::TagQueueFull);
-        self.hit_if(counted(before) && !counted(now), Class::CommandClears);
+        let cleared = counted(before) && !counted(now);
+        self.hit_if(cleared, Class::CommandClears);
+        self.hit_if(cleared && raw_counted(now), Class::RawAfterCommand);
     }
 
     fn overflows(&mut self, before: &Crate, now: &Crate) {
@@ -345,6 +417,15 @@ fn counted(device: &Crate) -> bool {
     device.counters.iter().any(|counter| counter.count != 0)
 }
 
+fn raw_counted(device: &Crate) -> bool {
+    device.raw_counts.iter().any(|raw| raw.0 != 0)
+}
+
+/// Whether an input register has the input in UP or DOWN.
+fn selects(register: u16, input: usize) -> bool {
+    [up_selection(register), down_selection(register)].contains(&(input as u16))
+}
+
 /// The table.
 impl Coverage {
     pub fn new() -> Coverage {
@@ -360,6 +441,7 @@ impl Coverage {
             test_up: [0; TEST_SIGNALS],
             test_down: [0; TEST_SIGNALS],
             trips: [[0; 5]; OUTPUTS],
+            raw: [0; INPUTS],
             budget: 0,
             ticks: 0,
             last: None,
@@ -413,6 +495,9 @@ impl Coverage {
         }
         for (o, kinds) in self.trips.iter().enumerate() {
             rows.extend(KINDS.iter().zip(kinds).map(|(name, n)| (format!("output {o} tripped by {name} alone"), *n)));
+        }
+        for (i, n) in self.raw.iter().enumerate() {
+            rows.push((format!("raw count of input {i} above 0 at the end"), *n));
         }
         rows
     }

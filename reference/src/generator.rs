@@ -564,7 +564,7 @@ impl Script {
 }
 
 /// First and last address of blocks and gaps for stray writes.
-pub const BLOCKS: [(&str, u16, u16); 46] = [
+pub const BLOCKS: [(&str, u16, u16); 47] = [
     ("gap below the masks", 0x0000, 0x062F),
     ("backplane masks", 0x0630, 0x0635),
     ("gap after the masks", 0x0636, 0x0637),
@@ -604,7 +604,8 @@ pub const BLOCKS: [(&str, u16, u16); 46] = [
     ("output selections", 0x1100, 0x11B5),
     ("gap after the outputs", 0x11B6, 0x11FF),
     ("counts", 0x1200, 0x12FF),
-    ("gap after the counts", 0x1300, 0x15FF),
+    ("raw counts", 0x1300, 0x136B),
+    ("gap after the raw counts", 0x136C, 0x15FF),
     ("groups", 0x1600, 0x161F),
     ("gap after the groups", 0x1620, 0x17FF),
     ("thresholds", 0x1800, 0x19FF),
@@ -863,4 +864,14 @@ pub fn budget(seed: u64) -> u64 {
         6..=8 => edge - 1,
         _ => edge + 1,
     }
+}
+
+/// A trace with its budget, after which raw counts have passed their low word: input 53 rises in each of 65,540
+/// pairs of ticks, input 0 in every other, input 30 at the start only.
+pub fn long_pulses() -> (Vec<u8>, u64) {
+    let tick = |inputs: [u8; 7]| [&[1, 0, 11, 0, 1][..], &inputs, &[0, 0]].concat();
+    let low = [0, 0, 0, 0x40, 0, 0, 0];
+    let (odd, even) = ([0x20, 0, 0, 0x40, 0, 0, 1], [0x20, 0, 0, 0x40, 0, 0, 0]);
+    let turn = [tick(odd), tick(low), tick(even), tick(low)].concat();
+    (turn.repeat(32_770), 4 * 32_770)
 }

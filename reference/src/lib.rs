@@ -1,7 +1,8 @@
 //! Reference model of the beam loss counter crate.
 //!
-//! "01" is the scope paper, "Manual" the Unilac-BLM Programmer's Manual
-//! ver. 0.1. Where both speak, 01 decides.
+//! "01" is the scope paper, "02" the change requests, "Manual" the Unilac-BLM
+//! Programmer's Manual ver. 0.1. Where two speak, 02 decides, then 01. Of 02,
+//! request 1 is in.
 #![forbid(unsafe_code)]
 
 pub mod counter;
@@ -13,6 +14,7 @@ pub mod loader;
 pub mod map;
 pub mod model;
 pub mod numbers;
+pub mod raw;
 pub mod trace;
 pub mod watchdog;
 

@@ -1,5 +1,5 @@
 //! The register map: Manual 3.2.3 to 3.2.14, less 0x071D and 0x0905, which
-//! 01 does not model.
+//! 01 does not model, and the raw counts of 02.
 
 use crate::numbers::GATE_BITS;
 
@@ -34,6 +34,7 @@ pub enum Register {
     Input(usize),
     OutputSelection(usize, usize),
     Count(usize),
+    RawCount(usize),
     Group(usize),
     Threshold(usize),
     Memory(usize),
@@ -60,6 +61,8 @@ pub fn register(address: u16) -> Option<Register> {
         0x1000..=0x107F => Some(Register::Input(at - 0x1000)),
         0x1100..=0x11BF => output_selection(at - 0x1100),
         0x1200..=0x12FF => Some(Register::Count(at - 0x1200)),
+        // 02, CR 1: "The addresses 0x1300 to 0x136B join the map as read-only."
+        0x1300..=0x136B => Some(Register::RawCount(at - 0x1300)),
         0x1600..=0x161F => Some(Register::Group(at - 0x1600)),
         0x1800..=0x19FF => Some(Register::Threshold(at - 0x1800)),
         0x8000..=0xBFFF => Some(Register::Memory(at - 0x8000)),
@@ -144,6 +147,7 @@ pub fn read_only(register: Register) -> bool {
             | LoaderState
             | LoaderIterator
             | Count(_)
+            | RawCount(_)
             | Threshold(_)
     )
 }
@@ -169,15 +173,16 @@ mod tests {
     use super::*;
 
     #[test]
-    fn the_map_has_17512_addresses_of_which_806_are_read_only() {
+    fn the_map_has_17620_addresses_of_which_914_are_read_only() {
         let named: Vec<Register> = (0..=0xFFFF).filter_map(register).collect();
-        assert_eq!(named.len(), 17_512);
-        assert_eq!(named.iter().filter(|r| read_only(**r)).count(), 806);
+        assert_eq!(named.len(), 17_620);
+        assert_eq!(named.iter().filter(|r| read_only(**r)).count(), 914);
     }
 
     #[test]
     fn registers_not_modelled_are_not_in_the_map() {
-        for address in [0x071D, 0x0905, 0x0715, 0x0716, 0x0803, 0x0636, 0x0637, 0x1116, 0x11B6, 0xC000] {
+        let gaps = [0x0715, 0x0716, 0x0803, 0x0636, 0x0637, 0x1116, 0x11B6, 0x136C, 0x15FF, 0xC000];
+        for address in gaps.into_iter().chain([0x071D, 0x0905]) {
             assert_eq!(register(address), None, "{address:#06x}");
         }
     }

@@ -6,6 +6,7 @@ use crate::lines::{input_rises, Rises, TestSignals};
 use crate::loader::{Loader, Request};
 use crate::map::{self, Register};
 use crate::numbers::*;
+use crate::raw::RawCount;
 use crate::watchdog::Watchdog;
 
 const POWER_UP_INPUT: u16 = 0xFDB6;
@@ -38,6 +39,7 @@ pub struct Crate {
     pub gates: [Gate; GATES],
     pub counters: [Counter; COUNTERS],
     pub watchdogs: [Watchdog; INPUTS],
+    pub raw_counts: [RawCount; INPUTS],
     pub loader: Loader,
     /// Levels of the last accepted tick.
     pub last_inputs: u64,
@@ -97,6 +99,7 @@ impl Crate {
             gates: std::array::from_fn(|_| Gate::default()),
             counters: [Counter::default(); COUNTERS],
             watchdogs: [Watchdog::default(); INPUTS],
+            raw_counts: [RawCount::default(); INPUTS],
             loader: Loader::default(),
             last_inputs: 0,
             last_gates: 0,
@@ -281,11 +284,20 @@ impl Crate {
     fn accepted_tick(&mut self, memory: &[u16], inputs: u64, gates: u16) {
         let test_rises = self.tests.step();
         let rises = Rises(test_rises | input_rises(inputs, self.last_inputs));
+        self.step_raw_counts(rises);
         let outputs = self.step_gates(gates);
         self.step_counters(rises, outputs);
         self.step_watchdogs(rises);
         self.step_loader(memory);
         self.settle(inputs, gates);
+    }
+
+    /// The line alone decides; test signals and ground have no raw count.
+    // 02, CR 1: "Gates, selections and RESET have no effect on it.", "cleared at power-up only"
+    fn step_raw_counts(&mut self, rises: Rises) {
+        for (i, raw) in self.raw_counts.iter_mut().enumerate() {
+            raw.step(rises.0 >> i & 1 == 1);
+        }
     }
 
     fn seen_by_gate(&self, g: usize, gates: u16) -> Seen {
@@ -382,6 +394,7 @@ impl Crate {
             Register::Input(n) => self.input[n],
             Register::OutputSelection(o, k) => self.selection[o][k],
             Register::Count(k) => self.counters[k / 2].count_word(k % 2),
+            Register::RawCount(k) => self.raw_counts[k / 2].word(k % 2),
             Register::Group(k) => self.group_word(k),
             Register::Threshold(k) => self.counters[k / 4].threshold_word(k % 4),
             Register::Memory(at) => memory[at],

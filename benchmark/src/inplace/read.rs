@@ -28,6 +28,7 @@ impl Crate {
             0x1000..=0x107F => self.counters.inputs[at - 0x1000],
             0x1100..=0x11BF if at % 32 < SELECTION_WORDS => self.selections[(at - 0x1100) / 32][at % 32],
             0x1200..=0x12FF => half(self.counters.counts[(at - 0x1200) / 2], at % 2),
+            0x1300..=0x136B => self.lines.raw_word(at - 0x1300),
             0x1600..=0x161F => self.counters.groups[at - 0x1600],
             0x1800..=0x19FF => self.threshold_word(at - 0x1800),
             0x8000..=0xBFFF => memory[at - 0x8000],

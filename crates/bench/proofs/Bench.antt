@@ -10,7 +10,7 @@ use Rattle.sheet.specs.Requests.{standAfter}
 use Rattle.printing.specs.Printed.{programPrints}
 use Rattle.bench.specs.Example.{example, exampleText}
 use Rattle.bench.specs.Starred.{starred}
-use Rattle.bench.proofs.Worked.{worked, gateRows, counterRows, registerRows, refusalRows, loaderRows, boundRows, outputRows, traceRows}
+use Rattle.bench.proofs.Worked.{worked, gateRows, counterRows, registerRows, refusalRows, loaderRows, boundRows, outputRows, traceRows, rawRows}
 
 starred-right : right starred ≡ true
 unfolding computing starred
@@ -21,7 +21,7 @@ pub starred-checks : (k : ℕ) → k < length starred → getD starred k (row 0 
 starred-checks = row-right starred starred-right
 
 worked-right : right worked ≡ true
-unfolding computing worked gateRows counterRows registerRows refusalRows loaderRows boundRows outputRows traceRows standAfter
+unfolding computing worked gateRows counterRows registerRows refusalRows loaderRows boundRows outputRows traceRows rawRows standAfter
 worked-right = refl
 
 -- the worked cases

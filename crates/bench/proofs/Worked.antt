@@ -1,5 +1,5 @@
 -- Worked cases of the definitions, section by section of document 01: gates, counters, registers, refusals, loader, watchdogs,
--- interlocks, traces.
+-- interlocks, traces; then the raw counts of document 02, request 1.
 use Prim.Native.Nat.{ℕ, zero, suc, _+_, _*_, _/_, _%_, _^_}
 use mathlib.Core.Bool.{Bool, true, false}
 use mathlib.Core.List.{List, [], _∷_, _++_}
@@ -14,11 +14,12 @@ use Rattle.gates.specs.declared.gate.GateState.{GateState}
 use Rattle.gates.specs.declared.gate.GateState.the-variants.{Idle, Prepare, Open, Waiting, Error, Recover, Direct}
 use Rattle.counters.specs.Counter.{counter0, counterStep, withCount}
 use Rattle.gates.specs.Gate.{gateStep, stateNumber}
+use Rattle.lines.specs.Raw.{rawStep}
 use Rattle.registers.specs.declared.map.Register.{Register}
 use Rattle.registers.specs.Answer.{numberOf}
 use Rattle.registers.specs.Calls.{Call, tick, write, tag, download, answer, after, step, machine0, powered, poweredMemory}
 use Rattle.registers.specs.Map.{decodeOf, usedBits}
-use Rattle.registers.specs.Read.{readOf}
+use Rattle.registers.specs.Read.{lowFirst, readOf}
 use Rattle.registers.specs.State.{common0, machine, powerUp}
 use Rattle.registers.specs.Write.{writeAnswer}
 use Rattle.sheet.specs.Requests.{Stand, finished, standAfter, waits, works}
@@ -172,8 +173,8 @@ mapped (suc n) sum = mapped n (sum + counts (decodeOf n))
 
 unfoldable pub registerRows : List Row
 registerRows =
-    -- of all 65,536 addresses 17,512 are in the map, 806 of them read-only
-    row 806_17512 (mapped 65536 0)
+    -- of all 65,536 addresses 17,620 are in the map, 914 of them read-only
+    row 914_17620 (mapped 65536 0)
     -- used bits
     ∷ row 0x0FFF (storedWord 0x0630 0xFFFF)
     ∷ row 0x0FFF (storedWord 0x0635 0xFFFF)
@@ -217,13 +218,13 @@ registerRows =
     ∷ row 20
     (unmapped (0x1116 ∷ 0x111F ∷ 0x1136 ∷ 0x113F ∷ 0x1156 ∷ 0x115F ∷ 0x1176 ∷ 0x117F ∷ 0x1196 ∷ 0x119F ∷ []))
     ∷ row 8 (unmapped (0x11B6 ∷ 0x11BF ∷ 0x11C0 ∷ 0x11FF ∷ []))
-    ∷ row 4 (unmapped (0x1300 ∷ 0x15FF ∷ []))
+    ∷ row 4 (unmapped (0x136C ∷ 0x15FF ∷ []))
     ∷ row 4 (unmapped (0x1620 ∷ 0x17FF ∷ []))
     ∷ row 4 (unmapped (0x1A00 ∷ 0x7FFF ∷ []))
     ∷ row 4 (unmapped (0xC000 ∷ 0xFFFF ∷ []))
     -- and what stands beside them
-    ∷ row 24
-    (readOnly (0x0638 ∷ 0x063D ∷ 0x0700 ∷ 0x0714 ∷ 0x0717 ∷ 0x071C ∷ 0x0900 ∷ 0x0904 ∷ 0x1200 ∷ 0x12FF ∷ 0x1800 ∷ 0x19FF ∷ []))
+    ∷ row 28
+    (readOnly (0x0638 ∷ 0x063D ∷ 0x0700 ∷ 0x0714 ∷ 0x0717 ∷ 0x071C ∷ 0x0900 ∷ 0x0904 ∷ 0x1200 ∷ 0x12FF ∷ 0x1300 ∷ 0x136B ∷ 0x1800 ∷ 0x19FF ∷ []))
     ∷ row 40
     (writable (0x0630 ∷ 0x0635 ∷ 0x0800 ∷ 0x0802 ∷ 0x0804 ∷ 0x0813 ∷ 0x0A00 ∷ 0x0A04 ∷ 0x1000 ∷ 0x107F ∷ 0x1100 ∷ 0x1115 ∷ 0x1120 ∷ 0x1135
     ∷ 0x11A0 ∷ 0x11B5 ∷ 0x1600 ∷ 0x161F ∷ 0x8000 ∷ 0xBFFF ∷ []))
@@ -426,5 +427,37 @@ traceRows =
     ∷ row 1_000_000_000_000 (digits (runOf (tickRecord 1 0 0) 5 (machine powerUp short) .progress .report))
     ∷ []
 
+-- ---- raw counts
+
+unfoldable pub rawRows : List Row
+rawRows =
+    -- a rise counts one, a level that stays high no more; the last input; low word before high word; the wrap
+    row 2 (reads (tick 1 0 ∷ tick 1 0 ∷ tick 0 0 ∷ tick 1 0 ∷ []) 0x1300)
+    ∷ row 1 (reads (tick (2 ^ 53 + 2) 0 ∷ []) 0x136A)
+    ∷ row 0 (reads (tick (2 ^ 53 + 2) 0 ∷ []) 0x136B)
+    ∷ row 0 (reads (tick (2 ^ 53 + 2) 0 ∷ []) 0x1300)
+    ∷ row 0x5678 (lowFirst 106 0x1234_5678)
+    ∷ row 0x1234 (lowFirst 107 0x1234_5678)
+    ∷ row 0xFFFF_FFFF (rawStep true 0xFFFF_FFFE)
+    ∷ row 0 (rawStep true 0xFFFF_FFFF)
+    ∷ row 0xFFFF_FFFF (rawStep false 0xFFFF_FFFF)
+    -- neither a selection nor an open gate is needed; a counter that sees the same pulses under RESET stays at 0
+    ∷ row 3 (reads (pulses 3) 0x1300)
+    ∷ row 3 (reads (counting 0 ++ (write 0x0801 1 ∷ pulses 3)) 0x1300)
+    ∷ row 0 (reads (counting 0 ++ (write 0x0801 1 ∷ pulses 3)) 0x1200)
+    -- nothing clears: RESET, AUTORESET, command 0x4, a watchdog's reset, a write to it, which is refused 3
+    ∷ row 3 (reads (counting 0 ++ pulses 3 ++ (write 0x0801 1 ∷ [])) 0x1300)
+    ∷ row 4 (reads (counting 0 ++ (write 0x0801 2 ∷ pulses 3) ++ (tick 0 0 ∷ tick 1 1 ∷ [])) 0x1300)
+    ∷ row 3 (reads (pulses 3 ++ (write 0x0A01 1 ∷ tag 0x4FFF ∷ [])) 0x1300)
+    ∷ row 3 (reads (pulses 3 ++ (write 0x0810 1 ∷ write 0x0810 0 ∷ [])) 0x1300)
+    ∷ row 3 (reads (pulses 3 ++ (write 0x1300 0 ∷ [])) 0x1300)
+    ∷ row 3 (answers (pulses 3) (write 0x1300 0))
+    ∷ row 2 (answers (pulses 3) (write 0x136C 0))
+    -- a refused tick counts none, and its levels are not kept; a test signal has none
+    ∷ row 0 (reads (tick 1 0x1000 ∷ []) 0x1300)
+    ∷ row 1 (reads (tick 1 0 ∷ tick 0 0x1000 ∷ tick 1 0 ∷ []) 0x1300)
+    ∷ row 0 (reads (counting 63 ++ often 5 (tick 0 1)) 0x136A)
+    ∷ []
+
 unfoldable pub worked : List Row
-worked = gateRows ++ counterRows ++ registerRows ++ refusalRows ++ loaderRows ++ boundRows ++ outputRows ++ traceRows
+worked = gateRows ++ counterRows ++ registerRows ++ refusalRows ++ loaderRows ++ boundRows ++ outputRows ++ traceRows ++ rawRows

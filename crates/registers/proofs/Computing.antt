@@ -7,6 +7,7 @@ use Rattle.lists.specs.Table.{tableFrom, tabulate, each, any}
 use Rattle.counters.specs.Counter.{counterStep, counterTick, tickCounters, clearCounters, counterAt, overflowWord}
 use Rattle.gates.specs.Gate.{gateStep, eachGate, gateAt, gateBits, outputsOf, stateWord}
 use Rattle.lines.specs.Lines.{stepPhases, riseOf, risesOf}
+use Rattle.lines.specs.Raw.{countRises}
 use Rattle.loader.specs.Loader.{pushed, oldest, shifted, dropped, loaderStep, queueStep, groupAt, loadInto}
 use Rattle.loader.specs.Memory.{wordAt, loaded, replaced}
 use Rattle.watchdogs.specs.Watchdog.{watchdogStep, stepWatchdogs, withReset, resetIn, resetWatchdogs, watchdogAt, watchdogWord}
@@ -22,7 +23,7 @@ use Rattle.registers.specs.Write.{requestAnswer, requested, reloadAnswer
 unfoldable pub computing : List Row → Bool
 unfolding bit nibble fields fieldsFrom pack maskedBits tableFrom tabulate each any counterStep counterTick tickCounters
     clearCounters counterAt overflowWord gateStep eachGate
-    gateAt gateBits outputsOf stepPhases riseOf risesOf pushed oldest shifted dropped loaderStep queueStep groupAt loadInto wordAt loaded
+    gateAt gateBits outputsOf stepPhases riseOf risesOf countRises pushed oldest shifted dropped loaderStep queueStep groupAt loadInto wordAt loaded
     replaced watchdogStep stepWatchdogs withReset resetIn resetWatchdogs watchdogAt watchdogWord downloadAnswer callAnswer called answer step
     powered poweredMemory from after signals tripsBy trips interlocks backplaneMap statusMap controlMap eventMap counterMap decodeOf kept moduleWord stateWord statusWord settingWord wordIn
     readOf powerUp memory0 tagRequest commanded tagOf tagAnswer badLevels commonTick restTick tickOf requestAnswer requested reloadAnswer

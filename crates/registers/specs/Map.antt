@@ -1,4 +1,5 @@
--- The register map: the Manual's sections 3.2.3 to 3.2.14 as document 01, "Writes and event tags", settles them.
+-- The register map: the Manual's sections 3.2.3 to 3.2.14 as document 01, "Writes and event tags", settles them; and the raw counts of
+-- document 02, request 1.
 use Prim.Native.Nat.{ℕ, _+_, _-_, _*_, _/_, _%_}
 use lib.Dec.{eqb, ltb}
 use Rattle.words.specs.Pick.{pick}
@@ -9,7 +10,7 @@ use Rattle.registers.specs.declared.map.Setting.{Setting}
 use Rattle.registers.specs.declared.map.Setting.the-variants.{Mask, WatchdogTimeout, WatchdogReset, Selection}
 use Rattle.registers.specs.declared.map.Status.{Status}
 use Rattle.registers.specs.declared.map.Status.the-variants.{Module, Negative, Positive, GateErrors, WatchdogErrors, GateInputs, GateOutputs, Outputs}
-use Rattle.registers.specs.declared.map.Status.the-variants.{GateStates, TagLow, TagHigh, Code, LoaderState, LoaderCounter, Count, Threshold}
+use Rattle.registers.specs.declared.map.Status.the-variants.{GateStates, TagLow, TagHigh, Code, LoaderState, LoaderCounter, Count, Raw, Threshold}
 
 -- what stands below an edge, else what the rest of the map says
 abbrev pub below : ℕ → ℕ → Register → Register → Register
@@ -87,13 +88,14 @@ counterMap a =
     (below a 0x11C0 (outputBlock (a - 0x1100))  -- OUT_SEL
     (below a 0x1200 Nothing
     (below a 0x1300 (Readout (Count (a - 0x1200)))  -- CTR_READOUT
+    (below a 0x136C (Readout (Raw (a - 0x1300)))  -- raw counts: 0x1300 + 2 × input, "low word first"
     (below a 0x1600 Nothing
     (below a 0x1620 (Group (a - 0x1600))  -- CTR_GROUPS
     (below a 0x1800 Nothing
     (below a 0x1A00 (Readout (Threshold (a - 0x1800)))  -- THR
     (below a 0x8000 Nothing
     (below a 0xC000 (Word (a - 0x8000))  -- THR_RAM
-    Nothing))))))))))
+    Nothing)))))))))))
 
 unfoldable pub decodeOf : ℕ → Register
 decodeOf a =
@@ -124,6 +126,7 @@ statusBits Code = 16
 statusBits LoaderState = 2
 statusBits LoaderCounter = 7
 statusBits (Count k) = 16
+statusBits (Raw k) = 16
 statusBits (Threshold k) = 16
 
 abbrev pub settingBits : Setting → ℕ

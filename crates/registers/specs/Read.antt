@@ -4,11 +4,12 @@ use lib.Dec.{eqb, ltb}
 use lib.IntN.{ℤ}
 use lib.ListN.{getD}
 use Rattle.words.specs.Pick.{pick}
-use Rattle.words.specs.Signed.{lowWord, highWord}
+use Rattle.words.specs.Signed.{wordOf}
 use Rattle.words.specs.Word.{fields}
 use Rattle.counters.specs.declared.counter.Counter.{Counter}
 use Rattle.counters.specs.Counter.{counterAt, isOver, isUnder, overflowWord}
 use Rattle.gates.specs.Gate.{failed, gateAt, gateBits, mode, outputsOf, prepare, recover, stateWord}
+use Rattle.lines.specs.Raw.{rawAt}
 use Rattle.loader.specs.Memory.{isWhole, wordAt}
 use Rattle.watchdogs.specs.Watchdog.{errorOf, resetOf, watchdogWord}
 use Rattle.registers.specs.declared.answer.Answer.{Answer}
@@ -20,7 +21,7 @@ use Rattle.registers.specs.declared.map.Setting.{Setting}
 use Rattle.registers.specs.declared.map.Setting.the-variants.{Mask, WatchdogTimeout, WatchdogReset, Selection}
 use Rattle.registers.specs.declared.map.Status.{Status}
 use Rattle.registers.specs.declared.map.Status.the-variants.{Module, Negative, Positive, GateErrors, WatchdogErrors, GateInputs, GateOutputs, Outputs}
-use Rattle.registers.specs.declared.map.Status.the-variants.{GateStates, TagLow, TagHigh, Code, LoaderState, LoaderCounter, Count, Threshold}
+use Rattle.registers.specs.declared.map.Status.the-variants.{GateStates, TagLow, TagHigh, Code, LoaderState, LoaderCounter, Count, Raw, Threshold}
 use Rattle.registers.specs.declared.state.Crate.{Crate}
 use Rattle.registers.specs.Interlock.{interlocks}
 use Rattle.registers.specs.Map.{decodeOf}
@@ -33,9 +34,13 @@ moduleID slot = pick (ltb slot 9) 0x07 (pick (ltb slot 11) 0x03 0x06)
 unfoldable pub moduleWord : ℕ → ℕ
 moduleWord k = fields 8 2 (λ j. moduleID (2 * k + j))
 
+-- word j of a 32-bit number, "low word first"
+abbrev pub lowFirst : ℕ → ℕ → ℕ
+lowFirst j n = pick (eqb (j % 2) 0) (n % 65536) (n / 65536)
+
 -- the Manual's Tables 3.31 and 3.35: LOW before HIGH
 abbrev pub halfOf : ℕ → ℤ → ℕ
-halfOf j z = pick (eqb (j % 2) 0) (lowWord z) (highWord z)
+halfOf j z = lowFirst j (wordOf 32 z)
 
 -- positive before negative
 abbrev pub thresholdOf : ℕ → Counter → ℤ
@@ -57,6 +62,7 @@ statusWord s Code = s .rest .events .code
 statusWord s LoaderState = pick (s .common .loader .busy) 3 0
 statusWord s LoaderCounter = s .rest .events .handled
 statusWord s (Count k) = halfOf k (counterAt (s .counters) (k / 2) .count)
+statusWord s (Raw k) = lowFirst k (rawAt (s .rest .rawcounts) (k / 2))
 statusWord s (Threshold k) = halfOf k (thresholdOf (k % 4) (counterAt (s .counters) (k / 4)))
 
 unfoldable pub settingWord : Crate → Setting → ℕ

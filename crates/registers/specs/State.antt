@@ -58,12 +58,13 @@ withQueue cm q = commonOf (cm .control) (cm .key) (cm .enable) (cm .reload) q (c
 
 -- what no counter sees
 
-abbrev pub restOf : List ℕ → ℕ → List ℕ → List Watchdog → ℕ → Events → Rest
-restOf masks timeout selections watchdogs gatelevels events = record {
+abbrev pub restOf : List ℕ → ℕ → List ℕ → List Watchdog → List ℕ → ℕ → Events → Rest
+restOf masks timeout selections watchdogs rawcounts gatelevels events = record {
   masks = masks;
   timeout = timeout;
   selections = selections;
   watchdogs = watchdogs;
+  rawcounts = rawcounts;
   gatelevels = gatelevels;
   events = events;
 }
@@ -72,7 +73,7 @@ abbrev pub eventsOf : ℕ → ℕ → ℕ → ℕ → Events
 eventsOf low high code handled = record { low = low; high = high; code = code; handled = handled }
 
 abbrev pub withEvents : Rest → Events → Rest
-withEvents r e = restOf (r .masks) (r .timeout) (r .selections) (r .watchdogs) (r .gatelevels) e
+withEvents r e = restOf (r .masks) (r .timeout) (r .selections) (r .watchdogs) (r .rawcounts) (r .gatelevels) e
 
 -- "one crate and one memory"
 pub record Machine : Type 0 where
@@ -88,13 +89,16 @@ withState m s = machine s (m .memory)
 abbrev pub withMemory : Machine → List ℕ → Machine
 withMemory m memory = machine (m .state) memory
 
--- "All is 0 at power-up, except the input registers, 0x0800 at 65,535", 0x0719 and the module IDs
+-- "All is 0 at power-up, except the input registers, 0x0800 at 65,535", 0x0719 and the module IDs; raw counts are "cleared at power-up
+-- only"
 
 abbrev pub common0 : Common
 common0 = commonOf 0 0 0 0 queue0 loader0 (tabulate 9 (λ k. 0))
 
 abbrev pub rest0 : Rest
-rest0 = restOf (tabulate 6 (λ k. 0)) 65535 (tabulate 132 (λ k. 0)) (tabulate inputCount (λ i. watchdog0)) 0 (eventsOf 0 0 0 0)
+rest0 =
+    restOf (tabulate 6 (λ k. 0)) 65535 (tabulate 132 (λ k. 0)) (tabulate inputCount (λ i. watchdog0)) (tabulate inputCount (λ i. 0)) 0
+    (eventsOf 0 0 0 0)
 
 unfoldable pub powerUp : Crate
 powerUp = crateOf (tabulate counterCount (λ n. counter0)) (tabulate 32 (λ k. 0)) (tabulate gateCount (λ g. gate0)) 0 common0 rest0

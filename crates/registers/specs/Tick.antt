@@ -9,6 +9,7 @@ use Rattle.loader.specs.declared.loader.Loader.{Loader}
 use Rattle.counters.specs.Counter.{tickCounters}
 use Rattle.gates.specs.Gate.{gateStep, eachGate, outputsOf}
 use Rattle.lines.specs.Lines.{gateCount, inputCount, risesOf, stepPhases}
+use Rattle.lines.specs.Raw.{countRises}
 use Rattle.loader.specs.Loader.{loadInto, loaderStep, queueStep}
 use Rattle.watchdogs.specs.Watchdog.{stepWatchdogs}
 use Rattle.registers.specs.declared.state.Common.{Common}
@@ -33,11 +34,13 @@ commonTick cm =
 abbrev pub handledBy : Loader → Events → Events
 handledBy l e = eventsOf (e .low) (e .high) (e .code) (pick (l .busy) (l .next) (e .handled))
 
-unfoldable pub restTick : Rest → ℕ → ℕ → Loader → Rest
-restTick r rises gatelevels l =
-    restOf (r .masks) (r .timeout) (r .selections) (stepWatchdogs (r .timeout) rises (r .watchdogs)) gatelevels (handledBy l (r .events))
+-- what no counter sees, with the raw counts as they are after the tick
+unfoldable pub restTick : Rest → List ℕ → ℕ → ℕ → Loader → Rest
+restTick r rawcounts rises gatelevels l =
+    restOf (r .masks) (r .timeout) (r .selections) (stepWatchdogs (r .timeout) rises (r .watchdogs)) rawcounts gatelevels (handledBy l (r .events))
 
--- "A tick runs: test phases, input rises, gates, counters, watchdogs, loader; then event pulses are dropped and levels kept."
+-- "A tick runs: test phases, input rises, gates, counters, watchdogs, loader; then event pulses are dropped and levels kept." Raw counts take
+-- the input rises as they are: "Gates, selections and RESET have no effect"
 unfoldable pub tickOf : Crate → List ℕ → ℕ → ℕ → Crate
 tickOf s memory inputs gatelevels =
     let rises : ℕ = risesOf (s .levels) inputs (s .common .phases) in
@@ -45,4 +48,5 @@ tickOf s memory inputs gatelevels =
     crateOf
     (loadInto (s .common .loader) (s .groups) memory
     (tickCounters (s .common .control) rises (outputsOf (s .gates)) (outputsOf gates) (s .counters)))
-    (s .groups) gates inputs (commonTick (s .common)) (restTick (s .rest) rises gatelevels (s .common .loader))
+    (s .groups) gates inputs (commonTick (s .common))
+    (restTick (s .rest) (countRises rises (s .rest .rawcounts)) rises gatelevels (s .common .loader))

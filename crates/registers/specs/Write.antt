@@ -69,13 +69,13 @@ enableWrite w cm = withRegisters cm (cm .control) (cm .key) (kept Enable w) (cm 
 -- registers that no counter sees
 unfoldable pub restWrite : Setting → ℕ → Rest → Rest
 restWrite (Mask k) w r =
-    restOf (set (r .masks) k (kept (Other (Mask k)) w)) (r .timeout) (r .selections) (r .watchdogs) (r .gatelevels) (r .events)
+    restOf (set (r .masks) k (kept (Other (Mask k)) w)) (r .timeout) (r .selections) (r .watchdogs) (r .rawcounts) (r .gatelevels) (r .events)
 restWrite WatchdogTimeout w r =
-    restOf (r .masks) (kept (Other WatchdogTimeout) w) (r .selections) (r .watchdogs) (r .gatelevels) (r .events)
+    restOf (r .masks) (kept (Other WatchdogTimeout) w) (r .selections) (r .watchdogs) (r .rawcounts) (r .gatelevels) (r .events)
 restWrite (WatchdogReset k) w r =
-    restOf (r .masks) (r .timeout) (r .selections) (resetWatchdogs k w (r .watchdogs)) (r .gatelevels) (r .events)
+    restOf (r .masks) (r .timeout) (r .selections) (resetWatchdogs k w (r .watchdogs)) (r .rawcounts) (r .gatelevels) (r .events)
 restWrite (Selection j) w r =
-    restOf (r .masks) (r .timeout) (set (r .selections) j (kept (Other (Selection j)) w)) (r .watchdogs) (r .gatelevels) (r .events)
+    restOf (r .masks) (r .timeout) (set (r .selections) j (kept (Other (Selection j)) w)) (r .watchdogs) (r .rawcounts) (r .gatelevels) (r .events)
 
 -- cause 2, then 3, then for 0x0A02 those of a request
 unfoldable pub writeAnswer : Common → Register → ℕ → Answer

@@ -67,6 +67,7 @@ fn new_rest() -> Rest
         timeout: 65535,
         selections: [0u16; 132],
         watchdogs: [watchdog; 54],
+        rawcounts: [0u32; 54],
         gatelevels: 0,
         events,
     }

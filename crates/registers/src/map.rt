@@ -39,6 +39,7 @@ pub enum Status {
     LoaderState,
     LoaderCounter,
     Count(u16),
+    Raw(u16),
     Threshold(u16),
 }
 
@@ -198,6 +199,9 @@ fn counter_map(a: u16) -> Register
     }
     if a < 0x1300 {
         return Register::Readout(Status::Count(a - 0x1200));
+    }
+    if a < 0x136C {
+        return Register::Readout(Status::Raw(a - 0x1300));
     }
     if a < 0x1600 {
         return Register::Nothing;

@@ -5,8 +5,9 @@ ghost use lib.ListN.{getD};
 ghost use Rattle.words.specs.Pick.{pick};
 ghost use Rattle.counters.specs.Counter.{counterAt, isOut, overflowWord};
 ghost use Rattle.gates.specs.Gate.{gateAt, stateWord};
+ghost use Rattle.lines.specs.Raw.{rawAt};
 ghost use Rattle.watchdogs.specs.Watchdog.{flagOf, watchdogWord};
-ghost use Rattle.registers.specs.Read.{moduleID, moduleWord, halfOf, thresholdOf, statusWord, settingWord, wordIn, answerFor};
+ghost use Rattle.registers.specs.Read.{moduleID, moduleWord, lowFirst, halfOf, thresholdOf, statusWord, settingWord, wordIn, answerFor};
 ghost use Rattle.registers.specs.State.{machine};
 use crate::answer::Answer;
 use crate::interlock;
@@ -159,6 +160,27 @@ fn threshold_word(counters: [Counter; 128], k: u16) -> u16
     half(k, threshold(k % 4, c))
 }
 
+// Word j of a 32-bit number, low word first.
+fn low_first(j: u16, n: u32) -> u16
+    ensures { λ r. ⌜ r ≡ lowFirst j n ⌝ }
+{
+    if j % 2 == 0 {
+        return (n % 65536) as u16;
+    }
+    (n / 65536) as u16
+}
+
+// A word of a raw count; past the inputs 0.
+fn raw_word(rawcounts: [u32; 54], k: u16) -> u16
+    ensures { λ r. ⌜ r ≡ lowFirst k (rawAt rawcounts (k / 2)) ⌝ }
+{
+    let i = (k / 2) as usize;
+    if i < 54 {
+        return low_first(k, rawcounts[i]);
+    }
+    0
+}
+
 // The word of a read-only register.
 fn status_word(s: Crate, r: Status) -> u16
     ensures { λ w. ⌜ w ≡ statusWord s r ⌝ }
@@ -169,6 +191,7 @@ fn status_word(s: Crate, r: Status) -> u16
     let loader = common.loader;
     let rest = s.rest;
     let watchdogs = rest.watchdogs;
+    let rawcounts = rest.rawcounts;
     let events = rest.events;
     match r {
         Status::Module(k) => module_word(k),
@@ -186,6 +209,7 @@ fn status_word(s: Crate, r: Status) -> u16
         Status::LoaderState => loader_state(loader.busy),
         Status::LoaderCounter => events.handled,
         Status::Count(k) => count_word(counters, k),
+        Status::Raw(k) => raw_word(rawcounts, k),
         Status::Threshold(k) => threshold_word(counters, k),
     }
 }

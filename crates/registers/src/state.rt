@@ -35,6 +35,8 @@ pub struct Rest {
     pub timeout: u16,
     pub selections: [u16; 132],
     pub watchdogs: [Watchdog; 54],
+    // registers 0x1300 to 0x136B: how often each input has risen since power-up, modulo 2^32
+    pub rawcounts: [u32; 54],
     // the gate levels of the last tick
     pub gatelevels: u16,
     pub events: Events,

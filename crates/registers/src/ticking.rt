@@ -43,15 +43,22 @@ fn note_handled(mut e: Events, loader: Loader) -> Events
     e
 }
 
-// Watchdogs, the gate levels, the last counter handled.
-fn tick_rest(mut rest: Rest, rises: u64, gatelevels: u16, loader: Loader) -> Rest
-    ensures { λ r. ⌜ r ≡ restTick rest rises gatelevels loader ⌝ }
+// Watchdogs, the gate levels, the last counter handled; the raw counts are given as they are after the tick.
+fn tick_rest(
+    mut rest: Rest,
+    rawcounts: [u32; 54],
+    rises: u64,
+    gatelevels: u16,
+    loader: Loader,
+) -> Rest
+    ensures { λ r. ⌜ r ≡ restTick rest rawcounts rises gatelevels loader ⌝ }
 {
     let old_watchdogs = rest.watchdogs;
     let old_events = rest.events;
     let watchdogs = watchdogs::step_watchdogs(old_watchdogs, rest.timeout, rises);
     let events = note_handled(old_events, loader);
     rest.watchdogs = watchdogs;
+    rest.rawcounts = rawcounts;
     rest.gatelevels = gatelevels;
     rest.events = events;
     rest
@@ -67,6 +74,7 @@ pub fn tick_crate(s: Crate, mem: &[u16], inputs: u64, gatelevels: u16) -> Crate
     let old_gates = s.gates;
     let old_common = s.common;
     let old_rest = s.rest;
+    let old_rawcounts = old_rest.rawcounts;
     let phases = old_common.phases;
     let loader = old_common.loader;
     let rises = lines::rises(s.levels, inputs, phases);
@@ -76,7 +84,8 @@ pub fn tick_crate(s: Crate, mem: &[u16], inputs: u64, gatelevels: u16) -> Crate
     let counted = counters::tick_counters(old_counters, old_common.control, rises, was, is);
     let counters = loader::load_into(loader, groups, mem, counted);
     let common = tick_common(old_common);
-    let rest = tick_rest(old_rest, rises, gatelevels, loader);
+    let rawcounts = lines::count_rises(old_rawcounts, rises);
+    let rest = tick_rest(old_rest, rawcounts, rises, gatelevels, loader);
     Crate {
         counters,
         groups,

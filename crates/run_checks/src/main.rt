@@ -1,4 +1,5 @@
-// Runs the checks that document 01 wants run, each from power-up, and prints the register that shows the result; then the stored traces.
+// Runs the checks that document 01 wants run and one of raw counts, each from power-up, and prints the register that shows the result; then
+// the stored traces.
 mod page;
 mod stored;
 mod traces;
@@ -50,6 +51,26 @@ fn first_rises() {
         signal += 1;
     }
     write(line.put(b'\n'));
+}
+
+// The raw count of input 53, high word first, after 65,538 rises while RESET is set.
+fn raw_rises() {
+    let mut mem = [0u16; 16384];
+    let start = registers::power_up(&mut mem);
+    let reset = registers::write(start.state, &mut mem, 0x0801, 1);
+    let mut state = reset.state;
+    let mut rises: u32 = 0;
+    while rises < 65538 {
+        let high = registers::tick(state, &mem, 0x0020_0000_0000_0000, 0);
+        let low = registers::tick(high.state, &mem, 0, 0);
+        state = low.state;
+        rises += 1;
+    }
+    let high_word = registers::read(state, &mem, 0x136B);
+    let low_word = registers::read(state, &mem, 0x136A);
+    let name = Page::new().put_text(b"raw count after 65538 rises under RESET: ");
+    let half = printing::put_hexadecimal(name, 4, high_word.word as u64);
+    write(printing::put_hexadecimal(half, 4, low_word.word as u64).put(b'\n'));
 }
 
 // Watchdog errors of inputs 0 to 15, and states of gates 0 to 3.
@@ -105,6 +126,7 @@ fn main() {
     write(printing::rehearse(&traces::EXAMPLE));
     timeouts();
     first_rises();
+    raw_rises();
     reload();
     autoreset();
     stored::run_all();

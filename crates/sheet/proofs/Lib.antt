@@ -6,6 +6,7 @@ pub mod Isolation
 pub mod Kept
 pub mod OwnTag
 pub mod Projection
+pub mod Raw
 pub mod Reached
 pub mod ReadBack
 pub mod Returned

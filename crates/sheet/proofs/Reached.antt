@@ -24,6 +24,7 @@ use Rattle.watchdogs.specs.declared.watchdog.Watchdog.{Watchdog}
 use Rattle.counters.specs.Counter.{clearCounters, cleared, counter0, counterAt, counterStep, counterTick, resetOn, tickCounters, withInput}
 use Rattle.gates.specs.Gate.{eachGate, gate0, gateAt, gateStep, withMode, withPrepare, withPreparePulse, withRecover, withRecoverPulse, withTimeout}
 use Rattle.lines.specs.Lines.{phaseLimit}
+use Rattle.lines.specs.Raw.{countRises, rawAt}
 use Rattle.loader.specs.Loader.{request0}
 use Rattle.loader.specs.Memory.{loaded, memoryWords, replaced, wordAt}
 use Rattle.watchdogs.specs.Watchdog.{resetIn, resetWatchdogs, stepWatchdogs, watchdog0, watchdogAt, watchdogTop, withReset}
@@ -208,6 +209,7 @@ rest-in (Mask k) w rest h = record {
   timeout = h .timeout;
   selections = h .selections;
   watchdogs = h .watchdogs;
+  rawcounts = h .rawcounts;
   gatelevels = h .gatelevels;
   events = h .events;
 }
@@ -216,6 +218,7 @@ rest-in WatchdogTimeout w rest h = record {
   timeout = kept-lt (Other WatchdogTimeout) w;
   selections = h .selections;
   watchdogs = h .watchdogs;
+  rawcounts = h .rawcounts;
   gatelevels = h .gatelevels;
   events = h .events;
 }
@@ -225,6 +228,7 @@ rest-in (WatchdogReset k) w rest h = record {
   selections = h .selections;
   watchdogs =
       watchdogs-in _ (λ i x p. both (λ (y : Watchdog). y .value ≤ watchdogTop) (eqb (i / 16) k) (reset-in (bit w (i % 16)) x p) p) (rest .watchdogs) (h .watchdogs);
+  rawcounts = h .rawcounts;
   gatelevels = h .gatelevels;
   events = h .events;
 }
@@ -235,6 +239,7 @@ rest-in (Selection j) w rest h = record {
       all-set 0 (λ i n. n < 2 ^ usedBits (Other (Selection i))) (λ i. pow-pos (usedBits (Other (Selection i)))) (rest .selections) j _
       (kept-lt (Other (Selection j)) w) (h .selections);
   watchdogs = h .watchdogs;
+  rawcounts = h .rawcounts;
   gatelevels = h .gatelevels;
   events = h .events;
 }
@@ -387,14 +392,20 @@ good-inputs inputs gates e =
     (λ f. absurd (true≢false (rw f at e)))
     (λ f. (leb-false (2 ^ 54) inputs f, leb-false (2 ^ 12) gates (rw f at e)))
 
-rest-tick-in : (rest : Rest) (cm : Common) → RestInRange rest → CommonInRange cm → (rises gates : ℕ) → gates < 2 ^ 12 →
-    RestInRange (restTick rest rises gates (cm .loader))
+rawcounts-in : (rises : ℕ) (rawcounts : List ℕ) → ((i : ℕ) → rawAt rawcounts i < 2 ^ 32) → (i : ℕ) → rawAt (countRises rises rawcounts) i < 2 ^ 32
+unfolding countRises
+rawcounts-in rises rawcounts h =
+    all-each 0 (λ i n. n < 2 ^ 32) (λ i. lit< tt) 54 _ rawcounts (λ i n l. both (λ (k : ℕ). k < 2 ^ 32) (bit rises i) (mod-lt (n + 1) (pow-pos 32)) l) h
+
+rest-tick-in : (rest : Rest) (cm : Common) → RestInRange rest → CommonInRange cm → (rawcounts : List ℕ) → ((i : ℕ) → rawAt rawcounts i < 2 ^ 32) →
+    (rises gates : ℕ) → gates < 2 ^ 12 → RestInRange (restTick rest rawcounts rises gates (cm .loader))
 unfolding restTick stepWatchdogs
-rest-tick-in rest cm h k rises gates g = record {
+rest-tick-in rest cm h k rawcounts r rises gates g = record {
   masks = h .masks;
   timeout = h .timeout;
   selections = h .selections;
   watchdogs = watchdogs-in _ (λ i w. watchdog-in (rest .timeout) (bit rises i) w) (rest .watchdogs) (h .watchdogs);
+  rawcounts = r;
   gatelevels = g;
   events = record {
     low = h .events .low;
@@ -418,7 +429,9 @@ reached-tick m h inputs gates good =
       gates = gates-in gateStep gate-in gates (m .state .gates) (h .gates);
       levels = g .0;
       common = common-tick-in (m .state .common) (h .common);
-      rest = rest-tick-in (m .state .rest) (m .state .common) (h .rest) (h .common) _ gates (g .1);
+      rest =
+          rest-tick-in (m .state .rest) (m .state .common) (h .rest) (h .common) _ (rawcounts-in _ (m .state .rest .rawcounts) (h .rest .rawcounts)) _ gates
+          (g .1);
       reset = λ e.
           load-all AtZero refl (m .state .common .loader) (m .state .groups) (m .memory) _ (loaded-zero (m .memory))
           (all-held (m .state .common .control) _ _ _ (m .state .counters) (unfold commonTick in e));
@@ -432,6 +445,7 @@ noted-in m h t = reached-rest m h _ (record {
   timeout = h .rest .timeout;
   selections = h .rest .selections;
   watchdogs = h .rest .watchdogs;
+  rawcounts = h .rest .rawcounts;
   gatelevels = h .rest .gatelevels;
   events = record {
     low = field-lt t 0 16;
@@ -549,6 +563,7 @@ reached-start = record {
         all-tabulate 0 (λ j n. n < 2 ^ usedBits (Other (Selection j))) (λ j. pow-pos (usedBits (Other (Selection j)))) 132 _
         (λ j. pow-pos (usedBits (Other (Selection j))));
     watchdogs = all-tabulate watchdog0 (λ i w. w .value ≤ watchdogTop) (λ i. omega arith) 54 _ (λ i. omega arith);
+    rawcounts = all-tabulate 0 (λ i n. n < 2 ^ 32) (λ i. lit< tt) 54 _ (λ i. lit< tt);
     gatelevels = lit< tt;
     events = record { low = lit< tt; high = lit< tt; code = lit< tt; handled = lit< tt };
   };

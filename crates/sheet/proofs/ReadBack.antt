@@ -24,6 +24,7 @@ use Rattle.watchdogs.specs.declared.watchdog.Watchdog.{Watchdog}
 use Rattle.gates.specs.Gate.{eachGate, failed, gate0, gateAt, gateBits, isError, mode, output, outputsOf, prepare, recover}
 use Rattle.gates.specs.Gate.{stateNumber, stateWord, withMode, withPrepare, withRecover, withTimeout}
 use Rattle.counters.specs.Counter.{clearCounters, cleared, counter0, counterAt, isOver, isUnder, overflowWord, resetOn, withInput}
+use Rattle.lines.specs.Raw.{rawAt}
 use Rattle.loader.specs.Memory.{isWhole, wordAt}
 use Rattle.watchdogs.specs.Watchdog.{errorOf, resetIn, resetOf, resetWatchdogs, stepWatchdogs, watchdog0, watchdogAt, watchdogWord, withReset}
 use Rattle.registers.specs.declared.answer.Answer.the-variants.{Done}
@@ -33,7 +34,7 @@ use Rattle.registers.specs.declared.map.Setting.{Setting}
 use Rattle.registers.specs.declared.map.Setting.the-variants.{Mask, WatchdogTimeout, WatchdogReset, Selection}
 use Rattle.registers.specs.declared.map.Status.{Status}
 use Rattle.registers.specs.declared.map.Status.the-variants.{Module, Negative, Positive, GateErrors, WatchdogErrors, GateInputs, GateOutputs, Outputs}
-use Rattle.registers.specs.declared.map.Status.the-variants.{GateStates, TagLow, TagHigh, Code, LoaderState, LoaderCounter, Count, Threshold}
+use Rattle.registers.specs.declared.map.Status.the-variants.{GateStates, TagLow, TagHigh, Code, LoaderState, LoaderCounter, Count, Raw, Threshold}
 use Rattle.registers.specs.declared.state.Common.{Common}
 use Rattle.registers.specs.declared.state.Crate.{Crate}
 use Rattle.registers.specs.declared.state.Rest.{Rest}
@@ -41,7 +42,7 @@ use Rattle.registers.specs.Answer.{isDone}
 use Rattle.registers.specs.Calls.{Call, tick, write, tag, download, after, answer, called, callAnswer, downloadAnswer, from, machine0, step}
 use Rattle.registers.specs.Interlock.{interlocks, lowGates, signals, trips, tripsBy}
 use Rattle.registers.specs.Map.{backplaneMap, below, controlMap, counterMap, decodeOf, eventMap, kept, outputBlock, statusMap}
-use Rattle.registers.specs.Read.{answerFor, halfOf, readBy, readOf, settingWord, statusWord, wordIn}
+use Rattle.registers.specs.Read.{answerFor, halfOf, lowFirst, readBy, readOf, settingWord, statusWord, wordIn}
 use Rattle.registers.specs.State.{Machine, powerUp, withCounters, withGates, withRest, withState}
 use Rattle.registers.specs.Tag.{commandOf, commanded, eventsOn, notedIn, rightKey, tagOf}
 use Rattle.registers.specs.Tick.{badLevels, restTick, tickOf}
@@ -218,10 +219,11 @@ counter-in a =
     (row a 0x11C0 _ _ (λ h. output-in (a - 0x1100) (omega arith))
     (row a 0x1200 _ _ (λ h. tt)
     (row a 0x1300 _ _ (λ h. tt)
+    (row a 0x136C _ _ (λ h. tt)
     (row a 0x1600 _ _ (λ h. tt)
     (row a 0x1620 _ _ (λ h. omega arith)
     (row a 0x1800 _ _ (λ h. tt)
-    (row a 0x1A00 _ _ (λ h. tt) (row a 0x8000 _ _ (λ h. tt) (row a 0xC000 _ _ (λ h. omega arith) tt))))))))))
+    (row a 0x1A00 _ _ (λ h. tt) (row a 0x8000 _ _ (λ h. tt) (row a 0xC000 _ _ (λ h. omega arith) tt)))))))))))
 
 in-map : (a : ℕ) → InMap (decodeOf a)
 unfolding decodeOf
@@ -392,6 +394,7 @@ record RestApart (r : Register) (x y : Rest) : Type 0 where
   selections : (j : ℕ) → (r ≡ Other (Selection j) → ⊥) → getD (x .selections) j 0 ≡ getD (y .selections) j 0
   errors : (k : ℕ) → follows r (Readout (WatchdogErrors k)) ≡ false →
       watchdogWord errorOf (x .watchdogs) k ≡ watchdogWord errorOf (y .watchdogs) k
+  rawcounts : x .rawcounts ≡ y .rawcounts
   gatelevels : x .gatelevels ≡ y .gatelevels
   events : x .events ≡ y .events
 
@@ -424,6 +427,7 @@ status-apart r m n h Code f = λ i. h .rest .events i .code
 status-apart r m n h LoaderState f = λ i. pick (h .common .busy i) 3 0
 status-apart r m n h LoaderCounter f = λ i. h .rest .events i .handled
 status-apart r m n h (Count k) f = λ i. halfOf k (h .counters .count k f (k / 2) i)
+status-apart r m n h (Raw k) f = λ i. lowFirst k (rawAt (h .rest .rawcounts i) (k / 2))
 status-apart r m n h (Threshold k) f =
     λ i. halfOf k (pick (ltb (k % 4) 2) (h .counters .positive (k / 4) i) (h .counters .negative (k / 4) i))
 
@@ -484,6 +488,7 @@ rest-kept r x = record {
   resets = λ k d. refl;
   selections = λ j d. refl;
   errors = λ k f. refl;
+  rawcounts = refl;
   gatelevels = refl;
   events = refl;
 }
@@ -691,6 +696,7 @@ mask-apart k w x = record {
   resets = λ j d. refl;
   selections = λ j d. refl;
   errors = λ j f. refl;
+  rawcounts = refl;
   gatelevels = refl;
   events = refl;
 }
@@ -703,6 +709,7 @@ watchdog-timeout-apart w x = record {
   resets = λ k d. refl;
   selections = λ j d. refl;
   errors = λ k f. refl;
+  rawcounts = refl;
   gatelevels = refl;
   events = refl;
 }
@@ -716,6 +723,7 @@ watchdog-reset-apart k w x s = record {
       watchdogs-apart resetOf k w (x .watchdogs) (s .watchdogs) j (λ p. d (ap (λ (i : ℕ). Other (WatchdogReset i)) (sym p)));
   selections = λ j d. refl;
   errors = λ j f. watchdogs-apart errorOf k w (x .watchdogs) (s .watchdogs) j (eqb-false j k f);
+  rawcounts = refl;
   gatelevels = refl;
   events = refl;
 }
@@ -728,6 +736,7 @@ selection-apart k w x = record {
   resets = λ j d. refl;
   selections = λ j d. getD-set-other (x .selections) k j _ 0 (λ p. d (ap (λ (i : ℕ). Other (Selection i)) (sym p)));
   errors = λ j f. refl;
+  rawcounts = refl;
   gatelevels = refl;
   events = refl;
 }

@@ -1,6 +1,6 @@
 -- The theorems about lists of calls, of the code: a crate and memory that went through `power_up`, calls and trace runs, by the contracts
 -- of those functions alone, are those of `after`. So each theorem holds of what the functions return.
-use Prim.Native.Nat.{ℕ, _+_, _*_, _≤_, _<_}
+use Prim.Native.Nat.{ℕ, _+_, _*_, _/_, _≤_, _<_}
 use mathlib.Core.Bool.{true, false}
 use mathlib.Core.List.{List, [], _∷_, _++_}
 use mathlib.Core.Option.{some}
@@ -14,7 +14,7 @@ use Rattle.registers.specs.declared.answer.Read.{Read}
 use Rattle.registers.specs.Answer.{isDone}
 use Rattle.registers.specs.Calls.{Call, write, acceptedTicks, after, answer, from, leftByRefusal, machine0, powered, poweredMemory, refusals, step}
 use Rattle.registers.specs.Map.{decodeOf, kept}
-use Rattle.registers.specs.Read.{readBy, readOf}
+use Rattle.registers.specs.Read.{lowFirst, readBy, readOf}
 use Rattle.registers.specs.State.{Machine, machine}
 use Rattle.registers.proofs.Lists.{from-append}
 use Rattle.trace.specs.declared.Progress.{Progress}
@@ -24,12 +24,13 @@ use Rattle.trace.specs.Sound.{Sound}
 use Rattle.sheet.specs.Follows.{follows}
 use Rattle.sheet.specs.Lines.{ownLines}
 use Rattle.sheet.specs.OwnPart.{Part, ownPart, ownPartOf}
+use Rattle.sheet.specs.Raw.{rawCount}
 use Rattle.sheet.specs.Reachable.{OfWords, Reached}
 use Rattle.sheet.specs.Requests.{finished, requestMade, standAfter, waits}
 use Rattle.sheet.specs.Returned.{Act, calling, reading, tracing, Looked, Powered, Ran, Rehearsed, Returned, Went, listFrom, listOf}
 use Rattle.sheet.specs.Sheet.{sheetAfter, sheetShows}
 use Rattle.sheet.specs.Shows.{shows}
-use Rattle.sheet.proofs.Theorems.{alike-cut, finishes, isolation, reachable, read-back, read-other, refused, run-halts, run-is-list, run-records, run-refusals, run-sound, run-stops, run-ticks}
+use Rattle.sheet.proofs.Theorems.{alike-cut, finishes, isolation, raw-reads, reachable, read-back, read-other, refused, run-halts, run-is-list, run-records, run-refusals, run-sound, run-stops, run-ticks}
 
 -- one call, one run
 stepped : (m : Machine) (x : Call) (r : Outcome) (memory : List ℕ) → Returned m x r memory → machine (r .state) memory ≡ step m x
@@ -94,6 +95,11 @@ module _ (l : List Act) (n : Machine) (h : Rehearsed l n) where
   -- what a read after the list returns
   pub code-read : (a : ℕ) (q : Read) (memory : List ℕ) → Looked n a q memory → q ≡ readOf (after (listOf l)) a
   code-read a q memory look = look .0 ∙ ap (λ (k : Machine). readOf k a) (rehearsed l n h)
+
+  -- a read of a raw count
+  pub code-raw-reads : (j : ℕ) → j < 108 → (q : Read) (memory : List ℕ) → Looked n (0x1300 + j) q memory →
+      q ≡ readBy Done (lowFirst j (rawCount (j / 2) (listOf l)))
+  code-raw-reads j b q memory look = code-read (0x1300 + j) q memory look ∙ raw-reads j b (listOf l)
 
   -- a write that `write` accepted, and a read after it
   pub code-read-back : (a w : ℕ) (r : Outcome) (memory : List ℕ) → Returned n (write a w) r memory → r .answer ≡ Done →

@@ -1,10 +1,10 @@
 -- The theorems about lists of calls, with their full statements. Each is proved by the file that it cites.
-use Prim.Native.Nat.{ℕ, _+_, _*_, _≤_, _<_}
+use Prim.Native.Nat.{ℕ, _+_, _*_, _/_, _%_, _^_, _≤_, _<_}
 use native.Mathlib.Nat.{zero-add}
-use mathlib.Core.Bool.{true, false}
+use mathlib.Core.Bool.{Bool, true, false}
 use mathlib.Core.List.{List, _++_}
 use mathlib.Core.Option.{some}
-use mathlib.Core.Path.{_≡_, _∙_}
+use mathlib.Core.Path.{_≡_, sym, ap, _∙_}
 use lib.ListN.{length}
 use Rattle.loader.specs.declared.loader.Request.{Request}
 use Rattle.loader.specs.Memory.{isWhole}
@@ -12,7 +12,7 @@ use Rattle.registers.specs.declared.answer.Answer.the-variants.{Done}
 use Rattle.registers.specs.Answer.{isDone}
 use Rattle.registers.specs.Calls.{Call, write, acceptedTicks, after, answer, from, leftByRefusal, refusals, step}
 use Rattle.registers.specs.Map.{decodeOf, kept}
-use Rattle.registers.specs.Read.{readBy, readOf}
+use Rattle.registers.specs.Read.{lowFirst, readBy, readOf}
 use Rattle.registers.specs.State.{Machine}
 use Rattle.registers.proofs.Refused as refusing
 use Rattle.trace.specs.Passed.{callsIn, passedIn}
@@ -23,12 +23,14 @@ use Rattle.trace.proofs.Listed as listing
 use Rattle.sheet.specs.Follows.{follows}
 use Rattle.sheet.specs.Lines.{Holds, Lines, ownLines}
 use Rattle.sheet.specs.OwnPart.{Cut, ownPart, ownPartOf}
+use Rattle.sheet.specs.Raw.{levelsOf, rawCount, risesIn}
 use Rattle.sheet.specs.Reachable.{OfWords, Reached}
 use Rattle.sheet.specs.Requests.{Stands, finished, requestMade, standAfter, waits}
 use Rattle.sheet.specs.Sheet.{sheetAfter, sheetShows}
 use Rattle.sheet.specs.Shows.{shows}
 use Rattle.sheet.proofs.Finishes as finishing
 use Rattle.sheet.proofs.Isolation as isolating
+use Rattle.sheet.proofs.Raw as counting
 use Rattle.sheet.proofs.ReadBack as reading
 use Rattle.sheet.proofs.Reached as reaching
 
@@ -82,6 +84,17 @@ read-back = reading.read-back
 pub read-other : (l : List Call) (a w b : ℕ) → (decodeOf a ≡ decodeOf b → ⊥) → follows (decodeOf a) (decodeOf b) ≡ false →
     readOf (step (after l) (write a w)) b ≡ readOf (after l) b
 read-other = reading.read-other
+
+-- Document 02, request 1: after every list of calls the words at 0x1300 + 2 × i and the address after it are the low and the high word of the
+-- number of rises of input i over the accepted ticks, modulo 2^32 (`rawCount`); j counts the words of the block.
+pub raw-reads : (j : ℕ) → j < 108 → (l : List Call) → readOf (after l) (0x1300 + j) ≡ readBy Done (lowFirst j (rawCount (j / 2) l))
+raw-reads = counting.raw-reads
+
+-- So no gate, selection or clear matters to it: two lists whose accepted ticks have the same levels of that input read alike there.
+pub raw-alike : (j : ℕ) → j < 108 → (l m : List Call) → levelsOf (j / 2) l ≡ levelsOf (j / 2) m →
+    readOf (after l) (0x1300 + j) ≡ readOf (after m) (0x1300 + j)
+raw-alike j b l m e =
+    raw-reads j b l ∙ ap (λ (levels : List Bool). readBy Done (lowFirst j (risesIn false levels % 2 ^ 32))) e ∙ sym (raw-reads j b m)
 
 -- A trace run stands for the calls of the records that it passes: it leaves the crate and memory that they leave, and its records, ticks and
 -- refusals are the counts over them.

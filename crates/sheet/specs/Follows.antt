@@ -8,10 +8,10 @@ use Rattle.registers.specs.declared.map.Setting.{Setting}
 use Rattle.registers.specs.declared.map.Setting.the-variants.{Mask, WatchdogTimeout, WatchdogReset, Selection}
 use Rattle.registers.specs.declared.map.Status.{Status}
 use Rattle.registers.specs.declared.map.Status.the-variants.{Module, Negative, Positive, GateErrors, WatchdogErrors, GateInputs, GateOutputs, Outputs}
-use Rattle.registers.specs.declared.map.Status.the-variants.{GateStates, TagLow, TagHigh, Code, LoaderState, LoaderCounter, Count, Threshold}
+use Rattle.registers.specs.declared.map.Status.the-variants.{GateStates, TagLow, TagHigh, Code, LoaderState, LoaderCounter, Count, Raw, Threshold}
 
 -- 0x0801: "While RESET (bit 0) is set all counts are 0", and "overflow bits and interlocks follow the state as it is, also right after a
--- write"
+-- write"; no raw count follows
 abbrev pub followsControl : Status → Bool
 followsControl (Module k) = false
 followsControl (Negative k) = true
@@ -28,6 +28,7 @@ followsControl Code = false
 followsControl LoaderState = false
 followsControl LoaderCounter = false
 followsControl (Count k) = true
+followsControl (Raw k) = false
 followsControl (Threshold k) = false
 
 -- a register that interlocks alone follow
@@ -47,6 +48,7 @@ followsSelection Code = false
 followsSelection LoaderState = false
 followsSelection LoaderCounter = false
 followsSelection (Count k) = false
+followsSelection (Raw k) = false
 followsSelection (Threshold k) = false
 
 -- 0x0810 + k: "A write that takes its reset bit from 1 to 0 clears error and value", of the inputs of its own word; interlocks follow
@@ -66,6 +68,7 @@ followsReset k Code = false
 followsReset k LoaderState = false
 followsReset k LoaderCounter = false
 followsReset k (Count j) = false
+followsReset k (Raw j) = false
 followsReset k (Threshold j) = false
 
 -- "Interlock o is 1 exactly when no selected overflow, gate error, watchdog error or low forwarded gate input exists": by the selection

@@ -13,6 +13,7 @@ use Rattle.loader.specs.declared.loader.Request.{Request}
 use Rattle.counters.specs.Counter.{counterAt, resetOn}
 use Rattle.gates.specs.Gate.{gateAt, timeoutUnit}
 use Rattle.lines.specs.Lines.{gateCount, inputCount, phaseLimit}
+use Rattle.lines.specs.Raw.{rawAt}
 use Rattle.loader.specs.Loader.{request0}
 use Rattle.loader.specs.Memory.{memoryWords, wordAt}
 use Rattle.watchdogs.specs.Watchdog.{watchdogAt, watchdogTop}
@@ -68,6 +69,7 @@ pub record RestInRange (r : Rest) : Type 0 where
   pub timeout : r .timeout < 2 ^ usedBits (Other WatchdogTimeout)
   pub selections : (j : ℕ) → getD (r .selections) j 0 < 2 ^ usedBits (Other (Selection j))
   pub watchdogs : (i : ℕ) → watchdogAt (r .watchdogs) i .value ≤ watchdogTop
+  pub rawcounts : (i : ℕ) → rawAt (r .rawcounts) i < 2 ^ 32
   pub gatelevels : r .gatelevels < 2 ^ gateCount
   pub events : EventsInRange (r .events)
 

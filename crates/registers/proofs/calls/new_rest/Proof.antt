@@ -6,7 +6,7 @@ use Rattle.registers.proofs.calls.new_rest.Statement.{statement}
 use Rattle.registers.proofs.calls.new_rest.Tie as tie
 
 returns : tie.Need-returns
-returns c = rw (tabulate-fill {A = ℕ} 6 0, tabulate-fill {A = ℕ} 132 0, tabulate-fill 54 watchdog0)
+returns c = rw (tabulate-fill {A = ℕ} 6 0, tabulate-fill {A = ℕ} 132 0, tabulate-fill 54 watchdog0, tabulate-fill {A = ℕ} 54 0)
 
 pub new-rest-spec : {M : Type 1} → statement M
 new-rest-spec = tie.close (tie.spec returns)

@@ -23,4 +23,5 @@ counter-map-spec =
     (λ c. search tests)
     (λ c. search tests)
     (λ c. search tests)
+    (λ c. search tests)
     (λ c. search tests))

@@ -8,11 +8,12 @@ use Rattle.registers.proofs.ticking.tick_crate.Tie as tie
 returns : tie.Need-returns
 unfolding tickOf outputsOf
 returns c =
-    let l = c .before .before in
+    let l = c .before .before .before in
     let n = l .before .before in
     rw (
       c .tick-rest .ensures,
-      c .before .tick-common .ensures,
+      c .before .count-rises .ensures,
+      c .before .before .tick-common .ensures,
       l .load-into .ensures,
       l .before .tick-counters .ensures,
       n .gate-bits2 .ensures,
@@ -25,6 +26,7 @@ pub tick-crate-spec : {M : Type 1} → statement M
 tick-crate-spec =
     tie.close
     (tie.spec
+    (λ c κs. search needs)
     (λ c κs. search needs)
     (λ c κs. search needs)
     (λ c κs. search needs)
