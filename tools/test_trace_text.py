@@ -308,7 +308,7 @@ class Names(unittest.TestCase):
                   "write 0x1605 0x0201  # offset 21: groups of counters 20 to 23: 1, 0, 2, 0",
                   "write 0x0813 0xFF21  # offset 28: watchdog resets of inputs 48 to 53: 48,53",
                   "write 0xBFFF 0x0000  # offset 35: dataset 31, counter 127: negative threshold, high word",
-                  "write 0x136B 0x0000  # offset 42: raw count of input 53, high word: read-only",
+                  "write 0x136B 0x0000  # offset 42: raw count of input 53, high word, read-only: refused 3",
                   "# offset 49: end")
 
     def test_size_of_the_map(self):

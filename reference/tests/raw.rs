@@ -1,5 +1,8 @@
 //! 02, CR 1: raw pulses for each input.
 
+mod common;
+
+use common::{new_crate, ticks, word, writes};
 use reference::raw::RawCount;
 use reference::trace::from_power_up;
 use reference::Crate;
@@ -8,36 +11,12 @@ const FIRST: u16 = 0x1300;
 const LAST: u16 = 0x136B;
 const ALL_INPUTS: u64 = (1 << 54) - 1;
 
-fn new_crate() -> (Crate, Vec<u16>) {
-    let mut memory = vec![0; 16_384];
-    let (_, device) = Crate::power_up(&mut memory);
-    (device, memory)
-}
-
-fn ticks(device: &mut Crate, memory: &[u16], repeat: usize, inputs: u64, gates: u16) {
-    for _ in 0..repeat {
-        assert_eq!(device.tick(memory, inputs, gates), 0);
-    }
-}
-
 /// High for one tick and low for one, so many times.
 fn pulses(device: &mut Crate, memory: &[u16], number: usize, inputs: u64, gates: u16) {
     for _ in 0..number {
         ticks(device, memory, 1, inputs, gates);
         ticks(device, memory, 1, 0, gates);
     }
-}
-
-fn writes(device: &mut Crate, memory: &mut [u16], list: &[(u16, u16)]) {
-    for (address, word) in list {
-        assert_eq!(device.write(memory, *address, *word), 0, "{address:#06x}");
-    }
-}
-
-fn word(device: &Crate, memory: &[u16], address: u16) -> u16 {
-    let (answer, word) = device.read(memory, address);
-    assert_eq!(answer, 0, "{address:#06x}");
-    word
 }
 
 /// The raw count of an input as its two words read.

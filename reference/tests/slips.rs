@@ -1,25 +1,11 @@
 //! 01, "Slips to expect", refusals of single calls, and points easily missed.
 
+mod common;
+
+use common::{new_crate, ticks, writes};
 use reference::Crate;
 
-fn new_crate() -> (Crate, Vec<u16>) {
-    let mut memory = vec![0; 16_384];
-    let (_, device) = Crate::power_up(&mut memory);
-    (device, memory)
-}
-
-fn ticks(device: &mut Crate, memory: &[u16], repeat: usize, inputs: u64, gates: u16) {
-    for _ in 0..repeat {
-        assert_eq!(device.tick(memory, inputs, gates), 0);
-    }
-}
-
-fn writes(device: &mut Crate, memory: &mut [u16], list: &[(u16, u16)]) {
-    for (address, word) in list {
-        assert_eq!(device.write(memory, *address, *word), 0, "{address:#06x}");
-    }
-}
-
+/// The word of a read, refused ones included.
 fn word(device: &Crate, memory: &[u16], address: u16) -> u16 {
     device.read(memory, address).1
 }
