@@ -1,1 +1,2 @@
 pub mod Gates
+pub mod Leaps

@@ -165,7 +165,7 @@ fn next_state(g: Gate, high: bool) -> GateState
     }
 }
 
-fn in_prepare(state: GateState) -> bool
+pub fn in_prepare(state: GateState) -> bool
     ensures { λ r. ⌜ r ≡ inPrepare state ⌝ }
 {
     match state {
@@ -200,7 +200,7 @@ fn timer_of(was: bool, is: bool, timer: u32, timeout: u16) -> u32
 }
 
 // The output in a state.
-fn output_of(state: GateState, high: bool) -> bool
+pub fn output_of(state: GateState, high: bool) -> bool
     ensures { λ r. ⌜ r ≡ outputOf state high ⌝ }
 {
     match state {

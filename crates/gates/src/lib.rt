@@ -1,5 +1,6 @@
 // Gates: the logic of one, and all twelve at once.
 mod gate;
+mod leap;
 
 pub use gate::Gate;
 pub use gate::GateBit;
@@ -8,3 +9,6 @@ pub use gate::GateState;
 pub use gate::change_gates;
 pub use gate::gate_bits;
 pub use gate::state_word;
+pub use leap::horizon;
+pub use leap::leap_gates;
+pub use leap::steady_gates;

@@ -1,5 +1,6 @@
-// Runs the checks that document 01 wants run and one of raw counts, each from power-up, and prints the register that shows the result; then
-// the stored traces.
+// Runs the checks that document 01 wants run, one of raw counts and those of very long runs, each from power-up, and prints the register that
+// shows the result; then the stored traces.
+mod long;
 mod page;
 mod stored;
 mod traces;
@@ -127,6 +128,8 @@ fn main() {
     timeouts();
     first_rises();
     raw_rises();
+    long::wraps();
+    long::watchdog_top();
     reload();
     autoreset();
     stored::run_all();

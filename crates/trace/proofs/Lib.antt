@@ -1,3 +1,4 @@
+pub mod Leaping
 pub mod Halts
 pub mod Listed
 pub mod Numbers

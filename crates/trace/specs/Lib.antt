@@ -1,3 +1,4 @@
+pub mod Leaping
 pub mod Passed
 pub mod Records
 pub mod Run

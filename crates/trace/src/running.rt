@@ -8,6 +8,8 @@ ghost use Rattle.registers.specs.Answer.{isDone};
 ghost use Rattle.registers.specs.Calls.{from};
 ghost use Rattle.registers.specs.Calls.{tick as Call·tick, write as Call·write, tag as Call·tag};
 ghost use Rattle.registers.specs.State.{machine};
+ghost use Rattle.registers.specs.Tick.{badLevels};
+ghost use Rattle.trace.specs.Leaping.{SameEnd};
 ghost use Rattle.trace.specs.Records.{nextAt};
 ghost use Rattle.trace.specs.Run.{callIn, machineOf, onceOf, passed, progressOf, repeated, runOf, stopped, ticksIn};
 ghost use Rattle.trace.specs.Run.{run as Run·run};
@@ -85,16 +87,57 @@ fn pass(mut r: Report, t: &[u8], ticks: u64, refused: bool) -> Report
     r
 }
 
-// So many ticks at the same levels.
+// The crate, and the ticks still to be made.
+struct Ahead {
+    state: Crate,
+    left: u64,
+}
+
+// A leap costs about two ticks, so it is tried where more than that are left.
+const WORTH: u64 = 4;
+
+// What is left of so many ticks at the same levels, after a quiet stretch of them at once.
+fn leap_on(state: Crate, left: u64, inputs: u64, gates: u16) -> Ahead
+    ensures { λ r. ⌜ (r .left ≤ left) × SameEnd inputs gates state left (r .state) (r .left) ⌝ }
+{
+    let k = leaps::stretch(state, left, inputs, gates);
+    if k == 0 {
+        return Ahead { state, left };
+    }
+    let next = leaps::leap(state, k, gates);
+    Ahead {
+        state: next,
+        left: left - (k as u64),
+    }
+}
+
+// So many ticks at the same levels: a tick, and then the quiet ticks behind it at once. At the levels of the last tick the first may be quiet too.
 fn tick_on(state: Crate, mem: &[u16], n: u64, inputs: u64, gates: u16) -> Crate
     ensures { λ r. ⌜ machine r (now (mem .entry)) ≡ from (machine state (now (mem .entry))) (repeated n (Call·tick inputs gates)) ⌝ }
 {
+    if mem.len() != 16384 {
+        return state;
+    }
+    if registers::bad_levels(inputs, gates) {
+        return state;
+    }
     let mut on = state;
     let mut left = n;
+    if words::both(on.levels == inputs, WORTH <= left) {
+        let ahead = leap_on(on, left, inputs, gates);
+        on = ahead.state;
+        left = ahead.left;
+    }
     while 0 < left {
         let outcome = registers::tick(on, mem, inputs, gates);
         on = outcome.state;
         left -= 1;
+        if words::either(left < WORTH, on.common.loader.busy) {
+            continue;
+        }
+        let ahead = leap_on(on, left, inputs, gates);
+        on = ahead.state;
+        left = ahead.left;
     }
     on
 }

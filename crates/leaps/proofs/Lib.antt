@@ -1,0 +1,3 @@
+pub mod Leaps
+pub mod Theorems
+pub mod Worked
