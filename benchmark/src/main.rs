@@ -1,15 +1,20 @@
 //! Times the library, the reference model and the crate in place on the same traces, in turn, and compares what they
-//! give.
+//! give. With the feature `before` the library of an earlier revision is among them.
 
+#[cfg(feature = "before")]
+mod before;
 mod clock;
 mod traces;
 
-use mirvacula::{Report, Stop, MEMORY_WORDS};
+use mirvacula::{Rehearsal, Report, Stop, MEMORY_WORDS};
 use reference::trace::{self, from_power_up};
 use std::process::ExitCode;
 use traces::Trace;
 
 const ROUNDS: usize = 9;
+/// Of a long trace one round takes the reference seconds.
+const LONG_TICKS: u64 = 10_000_000;
+const LONG_ROUNDS: usize = 3;
 
 /// What a run gives: the report, the image and the memory.
 #[derive(PartialEq, Eq)]
@@ -21,12 +26,33 @@ struct Given {
 
 type Run = fn(&Trace) -> Given;
 
-const IMPLEMENTATIONS: [(&str, Run); 3] =
-    [("library", by_library), ("reference", by_reference), ("in place", in_place)];
+const IMPLEMENTATIONS: &[(&str, Run)] = &[
+    ("library", by_library),
+    #[cfg(feature = "before")]
+    ("before", by_library_before),
+    ("reference", by_reference),
+    ("in place", in_place),
+];
+
+/// Whose time the library's is divided by.
+const RATIOS: &[&str] = &[
+    "in place",
+    #[cfg(feature = "before")]
+    "before",
+];
 
 fn by_library(trace: &Trace) -> Given {
+    by_archive(mirvacula::run, trace)
+}
+
+#[cfg(feature = "before")]
+fn by_library_before(trace: &Trace) -> Given {
+    by_archive(before::run, trace)
+}
+
+fn by_archive(run: fn(&mut [u16], &[u8], u64) -> Rehearsal, trace: &Trace) -> Given {
     let mut memory = vec![0xAAAA; MEMORY_WORDS];
-    let rehearsal = mirvacula::run(&mut memory, &trace.bytes, trace.ticks);
+    let rehearsal = run(&mut memory, &trace.bytes, trace.ticks);
     Given { report: rehearsal.report, image: rehearsal.image().to_vec(), memory }
 }
 
@@ -84,28 +110,57 @@ fn timed(run: Run, trace: &Trace) -> f64 {
     end - start
 }
 
+fn rounds(trace: &Trace) -> usize {
+    if trace.ticks < LONG_TICKS { ROUNDS } else { LONG_ROUNDS }
+}
+
 /// The median seconds of each implementation, run in turn.
-fn medians(trace: &Trace) -> [f64; 3] {
-    let rounds: Vec<[f64; 3]> = (0..ROUNDS).map(|_| IMPLEMENTATIONS.map(|(_, run)| timed(run, trace))).collect();
-    std::array::from_fn(|i| {
-        let mut times: Vec<f64> = rounds.iter().map(|round| round[i]).collect();
-        times.sort_by(f64::total_cmp);
-        times[ROUNDS / 2]
-    })
+fn medians(trace: &Trace) -> Vec<f64> {
+    let mut times = vec![Vec::new(); IMPLEMENTATIONS.len()];
+    for _ in 0..rounds(trace) {
+        for (times, (_, run)) in times.iter_mut().zip(IMPLEMENTATIONS) {
+            times.push(timed(*run, trace));
+        }
+    }
+    times.iter_mut().for_each(|times| times.sort_by(f64::total_cmp));
+    times.iter().map(|times| times[times.len() / 2]).collect()
+}
+
+/// Three digits that count.
+fn ratio_text(ratio: f64) -> String {
+    let places = (2.0 - ratio.log10().floor()).max(1.0) as usize;
+    format!("{ratio:.places$}")
+}
+
+/// A column as wide as its name asks for.
+fn column(name: &str, text: &str) -> String {
+    format!("{text:>width$}", width = (name.len() + 2).max(10))
+}
+
+fn header() -> String {
+    let names = IMPLEMENTATIONS.iter().map(|(name, _)| name.to_string());
+    let columns = names.chain(RATIOS.iter().map(|name| format!("library:{name}")));
+    columns.fold("trace       ticks  records  per second".to_string(), |row, name| row + &column(&name, &name))
 }
 
 fn row(trace: &Trace, report: &Report) -> String {
     let by_ticks = report.ticks >= report.records;
     let (what, number) = if by_ticks { ("ticks", report.ticks) } else { ("records", report.records) };
     let times = medians(trace);
-    let [library, reference, in_place] = times.map(|seconds| number as f64 / seconds / 1e6);
-    let ratio = times[0] / times[2];
     let (name, ticks, records) = (trace.name, report.ticks, report.records);
-    format!("{name:8}{ticks:>9}{records:>9}  M {what:8}{library:>10.2}{reference:>11.2}{in_place:>10.2}{ratio:>17.1}")
+    let mut row = format!("{name:8}{ticks:>9}{records:>9}  M {what:8}");
+    for ((name, _), seconds) in IMPLEMENTATIONS.iter().zip(&times) {
+        row += &column(name, &format!("{:.2}", number as f64 / seconds / 1e6));
+    }
+    for rival in RATIOS {
+        let k = IMPLEMENTATIONS.iter().position(|(name, _)| name == rival).expect("all rivals are timed");
+        row += &column(&format!("library:{rival}"), &ratio_text(times[0] / times[k]));
+    }
+    row
 }
 
 fn main() -> ExitCode {
-    println!("trace       ticks  records  per second   library  reference  in place  library:in place");
+    println!("{}", header());
     for trace in traces::all() {
         match check(&trace) {
             Ok(report) => println!("{}", row(&trace, &report)),
@@ -115,6 +170,8 @@ fn main() -> ExitCode {
             }
         }
     }
-    println!("Medians of {ROUNDS} rounds of processor time; reports, images and memories agree.");
+    let long = LONG_TICKS / 1_000_000;
+    println!("Medians of {ROUNDS} rounds of processor time, of {LONG_ROUNDS} for {long} million ticks or more;");
+    println!("reports, images and memories agree.");
     ExitCode::SUCCESS
 }

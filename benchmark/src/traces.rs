@@ -17,8 +17,8 @@ pub struct Trace {
     pub ticks: u64,
 }
 
-pub fn all() -> [Trace; 4] {
-    [quiet(1_000_000), busy(300_000), repeat(300_000), records(100_000)]
+pub fn all() -> [Trace; 5] {
+    [idle(20_000_000), quiet(1_000_000), busy(300_000), repeat(300_000), records(100_000)]
 }
 
 impl Trace {
@@ -96,6 +96,21 @@ fn reset_watchdogs(trace: &mut Trace) {
     for word in [0xFFFF, 0x0000] {
         (0..4).for_each(|k| trace.write(0x0810 + k, word));
     }
+}
+
+/// Four counters, three of them on test signals, behind two open gates; the longest repeats and no event between them.
+fn idle(ticks: u64) -> Trace {
+    let mut trace = Trace::new("IDLE");
+    trace.patch(0, 3, 9, 0);
+    trace.patch(40, 55, 54, 0);
+    trace.patch(41, 63, 61, 1);
+    trace.patch(127, 59, 59, 1);
+    trace.write(0x0802, 3);
+    while trace.ticks < ticks {
+        let repeat = (ticks - trace.ticks).min(u16::MAX.into());
+        trace.tick(repeat as u16, 0, 3);
+    }
+    trace
 }
 
 /// Three counters on one gate; pulses one tick long, far apart.

@@ -1,7 +1,7 @@
 //! The crate in place against the reference model, on random traces.
 use benchmark::inplace::{run, Crate};
 use mirvacula::{Stop, MEMORY_WORDS};
-use reference::generator;
+use reference::generator::{self, Family};
 use reference::trace::{from_power_up, Stop as Expected};
 
 /// How many random traces: `TRACES=n` sets another number.
@@ -39,7 +39,7 @@ fn compare(name: &str, bytes: &[u8], budget: u64) -> Result<(), String> {
 }
 
 fn compare_seed(seed: u64) -> Result<(), String> {
-    compare(&format!("seed {seed}"), &generator::trace(seed), generator::budget(seed))
+    compare(&format!("seed {seed}"), &Family::Scenes.trace(seed), Family::Scenes.budget(seed))
 }
 
 #[test]

@@ -21,6 +21,11 @@ extern "C" {
     ) -> u16;
 }
 
+/// `mirvacula_run`, or the same function of another archive.
+#[doc(hidden)]
+pub type EntryPoint =
+    unsafe extern "C" fn(*mut u16, usize, *const u8, usize, u64, *mut u64, usize, *mut u16, usize) -> u16;
+
 /// Why a run stopped.
 #[derive(Clone, Copy, Debug, PartialEq, Eq)]
 pub enum Stop {
@@ -66,11 +71,22 @@ impl Rehearsal {
 
 /// Powers up a crate on the lent memory (which is cleared) and runs the trace with a budget of ticks.
 pub fn run(memory: &mut [u16], trace: &[u8], budget: u64) -> Rehearsal {
+    // SAFETY: the archive's function is what mirvacula.h says.
+    unsafe { run_by(mirvacula_run, memory, trace, budget) }
+}
+
+/// A run by another archive's function.
+///
+/// # Safety
+///
+/// The function has to be what mirvacula.h says.
+#[doc(hidden)]
+pub unsafe fn run_by(entry_point: EntryPoint, memory: &mut [u16], trace: &[u8], budget: u64) -> Rehearsal {
     let mut report = [0; REPORT_WORDS];
     let mut image = vec![0; IMAGE_WORDS];
     // SAFETY: each pointer comes from a slice that is borrowed for the call, with its length; none of them overlap.
     let stop = unsafe {
-        mirvacula_run(
+        entry_point(
             memory.as_mut_ptr(),
             memory.len(),
             trace.as_ptr(),

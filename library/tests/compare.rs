@@ -1,57 +1,87 @@
 //! The library against the reference model, on random traces.
-use mirvacula::{run, Rehearsal, Stop, MEMORY_WORDS};
-use reference::generator;
-use reference::trace::{from_power_up, Stop as Expected};
+use mirvacula::{run, Rehearsal, Stop, IMAGE_START, MEMORY_WORDS};
+use reference::generator::{self, Family};
+use reference::trace::{self, from_power_up, Report as Expected};
+use reference::Crate;
 
-/// How many random traces: `TRACES=n` sets another number.
-fn traces() -> u64 {
-    std::env::var("TRACES").ok().and_then(|n| n.parse().ok()).unwrap_or(20_000)
+/// How many random traces: `TRACES=n` and, of long repeats, `REPEATS=n` set another number.
+fn traces(family: Family) -> u64 {
+    let (name, number) = match family {
+        Family::Scenes => ("TRACES", 20_000),
+        Family::Repeats => ("REPEATS", 2_000),
+    };
+    std::env::var(name).ok().and_then(|n| n.parse().ok()).unwrap_or(number)
 }
 
-fn same_stop(stop: Stop, expected: Expected) -> bool {
+fn same_stop(stop: Stop, expected: trace::Stop) -> bool {
     match (stop, expected) {
-        (Stop::End, Expected::End) | (Stop::Spent, Expected::Spent) => true,
-        (Stop::Refused(cause), Expected::Refused(number)) => cause == u16::from(number),
+        (Stop::End, trace::Stop::End) | (Stop::Spent, trace::Stop::Spent) => true,
+        (Stop::Refused(cause), trace::Stop::Refused(number)) => cause == u16::from(number),
         _ => false,
     }
 }
 
-fn compare(name: &str, bytes: &[u8], budget: u64) -> Result<(), String> {
+/// The library's run, held to the reference model's report, crate and memory.
+fn compare(bytes: &[u8], budget: u64, expected: &Expected, device: &Crate, words: &[u16]) -> Result<(), String> {
     let mut memory = vec![0xAAAA; MEMORY_WORDS];
     let ours = run(&mut memory, bytes, budget);
-    let (device, expected_memory, expected) = from_power_up(bytes, budget);
     let r = ours.report;
     if !same_stop(r.stop, expected.stop) {
-        return Err(format!("{name}: stop {:?}, expected {:?}", r.stop, expected.stop));
+        return Err(format!("stop {:?}, expected {:?}", r.stop, expected.stop));
     }
     let counts = [r.next, r.ticks, r.records, r.refused];
     let wanted = [expected.next, expected.ticks, expected.records, expected.refused];
     if counts != wanted {
-        return Err(format!("{name}: next, ticks, records, refused {counts:?}, expected {wanted:?}"));
+        return Err(format!("next, ticks, records, refused {counts:?}, expected {wanted:?}"));
     }
-    if ours.image() != reference::image(&device, &expected_memory) {
-        return Err(format!("{name}: a register differs"));
+    let image = reference::image(device, words);
+    if let Some(k) = ours.image().iter().zip(&image).position(|(is, wanted)| is != wanted) {
+        let (address, is, wanted) = (usize::from(IMAGE_START) + k, ours.image()[k], image[k]);
+        return Err(format!("register {address:#06x} is {is:#06x}, expected {wanted:#06x}"));
     }
-    if memory != expected_memory[..] {
-        return Err(format!("{name}: a memory word differs"));
+    if memory != words {
+        return Err("a memory word differs".to_string());
     }
     Ok(())
 }
 
-fn compare_seed(seed: u64) -> Result<(), String> {
-    compare(&format!("seed {seed}"), &generator::trace(seed), generator::budget(seed))
+/// The reference model goes on from one look to the next; the library runs from power-up to each.
+fn compare_seed(family: Family, seed: u64) -> Result<(), String> {
+    let (bytes, budget) = (family.trace(seed), family.budget(seed));
+    let (mut device, mut memory, mut expected) = from_power_up(&[], budget);
+    for look in family.looks(seed) {
+        let part = &bytes[expected.next as usize..look];
+        expected = expected.followed_by(trace::run(&mut device, &mut memory, part, budget - expected.ticks));
+        let compared = compare(&bytes[..look], budget, &expected, &device, &memory);
+        compared.map_err(|difference| format!("{family:?}, seed {seed}, {look} bytes: {difference}"))?;
+        if expected.stop != trace::Stop::End {
+            break;
+        }
+    }
+    Ok(())
+}
+
+fn all_agree(family: Family) {
+    let seeds = 0..traces(family);
+    let differences: Vec<String> = seeds.filter_map(|seed| compare_seed(family, seed).err()).collect();
+    assert!(differences.is_empty(), "{} differences:\n{}", differences.len(), differences.join("\n"));
 }
 
 #[test]
 fn random_traces_agree() {
-    let differences: Vec<String> = (0..traces()).filter_map(|seed| compare_seed(seed).err()).collect();
-    assert!(differences.is_empty(), "{} differences:\n{}", differences.len(), differences.join("\n"));
+    all_agree(Family::Scenes);
+}
+
+#[test]
+fn random_traces_of_long_repeats_agree() {
+    all_agree(Family::Repeats);
 }
 
 #[test]
 fn raw_counts_past_their_low_word_agree() {
     let (trace, budget) = generator::long_pulses();
-    assert_eq!(compare("raw counts", &trace, budget), Ok(()));
+    let (device, memory, expected) = from_power_up(&trace, budget);
+    assert_eq!(compare(&trace, budget, &expected, &device, &memory), Ok(()));
     let (rehearsal, _) = rehearse(MEMORY_WORDS, &trace, budget);
     let words = [0x1300, 0x1301, 0x133C, 0x133D, 0x136A, 0x136B].map(|address| rehearsal.register(address));
     assert_eq!(words, [32_770, 0, 1, 0, 4, 1].map(Some));

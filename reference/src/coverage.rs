@@ -1,7 +1,9 @@
 //! Counts of what the generated traces reach.
 
+pub mod repeats;
+
 use crate::counter::{down_selection, gate_selection, up_selection};
-use crate::generator::{self, BLOCKS};
+use crate::generator::{Family, BLOCKS};
 use crate::lines::{FIRST_TEST, TEST_KHZ, TEST_SIGNALS};
 use crate::map;
 use crate::model::Crate;
@@ -139,6 +141,42 @@ const CLASSES: [(Class, &str); 58] = [
     (Class::RawAfterWatchdogReset, "watchdog cleared, raw count above 0 of its input stays"),
 ];
 
+/// The classes of a family of traces, counted while they run.
+pub trait Table: Recorder + Sized {
+    const FAMILY: Family;
+
+    fn begin(&mut self, device: &Crate, budget: u64);
+
+    /// The name of each class, and how often it was reached.
+    fn rows(&self) -> Vec<(String, u64)>;
+
+    fn run_seed(&mut self, seed: u64) {
+        let mut memory = vec![0; MEMORY_WORDS];
+        let (_, mut device) = Crate::power_up(&mut memory);
+        let (bytes, budget) = (Self::FAMILY.trace(seed), Self::FAMILY.budget(seed));
+        self.begin(&device, budget);
+        run_recorded(&mut device, &mut memory, &bytes, budget, self);
+    }
+
+    /// What must not occur, but did.
+    fn broken(&self) -> Option<String> {
+        None
+    }
+
+    fn never_reached(&self) -> Vec<String> {
+        let missed = self.rows().into_iter().filter(|row| row.1 == 0).map(|row| row.0);
+        missed.chain(self.broken()).collect()
+    }
+
+    fn text(&self) -> String {
+        let rows = self.rows();
+        let missing = self.never_reached();
+        let mut text: String = rows.iter().map(|(name, n)| format!("{n:>12}  {name}\n")).collect();
+        text += &format!("{} classes, {} never reached\n", rows.len(), missing.len());
+        missing.iter().fold(text, |text, name| text + "never reached: " + name + "\n")
+    }
+}
+
 pub struct Coverage {
     classes: [u64; CLASSES.len()],
     steps: [[u64; 7]; 7],
@@ -161,7 +199,7 @@ pub struct Coverage {
 
 impl Recorder for Coverage {
     fn called(&mut self, called: &Record, answer: u8, now: &Crate) {
-        let before = self.last.take().expect("run_seed sets it");
+        let before = self.last.take().expect("a run begins with it");
         match *called {
             Record::Tick { inputs, gates, .. } => self.ticked(answer, inputs, gates, &before, now),
             Record::Write { address, word } => self.wrote(answer, address, word, &before, now),
@@ -195,7 +233,7 @@ impl Recorder for Coverage {
             self.hit_if(u64::from(repeat) == budget - report.ticks + 1, Class::SpentByOneTick);
         }
         self.hit_if(budget > 0 && report.ticks == budget, Class::BudgetUsedToTheLastTick);
-        let end = self.last.as_ref().expect("run_seed sets it");
+        let end = self.last.as_ref().expect("a run begins with it");
         for (n, raw) in self.raw.iter_mut().zip(end.raw_counts) {
             *n += u64::from(raw.0 > 0);
         }
@@ -239,13 +277,12 @@ impl Coverage {
     }
 
     fn counting(&mut self, rises: u64, before: &Crate, now: &Crate) {
-        let tests = (0..TEST_SIGNALS).filter(|k| now.tests.phases[*k] < before.tests.phases[*k]);
-        let rises = tests.fold(rises, |rises, k| rises | 1 << (FIRST_TEST + k));
+        let rises = rises | test_rises(before, now);
         for n in 0..COUNTERS {
-            let gate = gate_selection(now.input[n]);
-            if gate >= GATES || !now.gates[gate].last_output {
+            if !is_open(now, now.input[n]) {
                 continue;
             }
+            let gate = gate_selection(now.input[n]);
             let (up, down) = (up_selection(now.input[n]), down_selection(now.input[n]));
             self.one_count(n, (up, down), rises, before, now);
             let opened = !before.gates[gate].last_output;
@@ -271,11 +308,10 @@ impl Coverage {
     /// Input i rises.
     fn one_raw_count(&mut self, i: usize, now: &Crate) {
         let selecting: Vec<u16> = now.input.into_iter().filter(|word| selects(*word, i)).collect();
-        let gates = selecting.iter().map(|word| gate_selection(*word));
-        let open = gates.filter(|gate| *gate < GATES && now.gates[*gate].last_output).count();
+        let open = selecting.iter().any(|word| is_open(now, *word));
         self.hit_if(now.counters_control & 1 != 0, Class::RawUnderReset);
         self.hit_if(selecting.is_empty(), Class::RawNotSelected);
-        self.hit_if(!selecting.is_empty() && open == 0, Class::RawBehindClosedGate);
+        self.hit_if(!selecting.is_empty() && !open, Class::RawBehindClosedGate);
     }
 
     /// Counter n with its gate open.
@@ -319,8 +355,7 @@ impl Coverage {
 
     fn wrote(&mut self, answer: u8, address: u16, word: u16, before: &Crate, now: &Crate) {
         self.hit_if(self.ticks == self.budget, Class::CallAfterTheLastTick);
-        let block = BLOCKS.iter().position(|(_, first, last)| (*first..=*last).contains(&address));
-        let block = block.expect("the blocks cover all addresses");
+        let block = block_of(address);
         match answer {
             ACCEPTED => self.block_written[block] += 1,
             _ => self.block_refused[block] += 1,
@@ -356,8 +391,7 @@ impl Coverage {
     }
 
     fn patched(&mut self, n: usize, now: &Crate) {
-        let gate = gate_selection(now.input[n]);
-        let open = gate < GATES && now.gates[gate].last_output;
+        let open = is_open(now, now.input[n]);
         let up = now.last_inputs >> up_selection(now.input[n]) & 1 == 1;
         self.hit_if(open && up, Class::PatchedToHighLine);
     }
@@ -408,9 +442,29 @@ impl Coverage {
     }
 }
 
+fn block_of(address: u16) -> usize {
+    let block = BLOCKS.iter().position(|(_, first, last)| (*first..=*last).contains(&address));
+    block.expect("the blocks cover all addresses")
+}
+
+fn is_writable(address: u16) -> bool {
+    map::register(address).is_some_and(|register| !map::read_only(register))
+}
+
 /// Whether a register at this address drops bits of a written word.
 fn has_unused(address: u16) -> bool {
-    map::register(address).is_some_and(|register| !map::read_only(register) && map::used_bits(register) != 0xFFFF)
+    is_writable(address) && map::register(address).is_some_and(|register| map::used_bits(register) != 0xFFFF)
+}
+
+/// The test signals that rise in a tick, by selection value.
+fn test_rises(before: &Crate, now: &Crate) -> u64 {
+    let tests = (0..TEST_SIGNALS).filter(|k| now.tests.phases[*k] < before.tests.phases[*k]);
+    tests.fold(0, |rises, k| rises | 1 << (FIRST_TEST + k))
+}
+
+/// Whether the gate of an input register is open.
+fn is_open(device: &Crate, register: u16) -> bool {
+    device.gates.get(gate_selection(register)).is_some_and(|gate| gate.last_output)
 }
 
 fn counted(device: &Crate) -> bool {
@@ -460,17 +514,39 @@ impl Coverage {
         self.hit(if condition { yes } else { no });
     }
 
-    pub fn run_seed(&mut self, seed: u64) {
-        self.budget = generator::budget(seed);
-        self.ticks = 0;
-        let mut memory = vec![0; MEMORY_WORDS];
-        let (_, mut device) = Crate::power_up(&mut memory);
-        self.last = Some(device.clone());
-        let (bytes, budget) = (generator::trace(seed), self.budget);
-        run_recorded(&mut device, &mut memory, &bytes, budget, self);
+    /// Written where the map lets it, refused elsewhere.
+    fn block_rows(&self, rows: &mut Vec<(String, u64)>) {
+        for (k, (name, first, _)) in BLOCKS.iter().enumerate() {
+            let (what, n) = match is_writable(*first) {
+                true => ("written", self.block_written[k]),
+                false => ("refused", self.block_refused[k]),
+            };
+            rows.push((format!("{name}, {what}"), n));
+        }
+        let outputs = BLOCKS.iter().position(|block| block.1 == 0x1100).expect("in the list");
+        rows.push(("gaps between the output blocks, refused".to_string(), self.block_refused[outputs]));
+        rows.extend(BLOCKS.iter().zip(self.block_unused).filter(|row| has_unused(row.0 .1)).map(|(block, n)| {
+            (format!("{}, unused bits dropped", block.0), n)
+        }));
     }
 
-    pub fn rows(&self) -> Vec<(String, u64)> {
+    /// Steps that 01 does not list must not occur at all.
+    fn impossible_steps(&self) -> u64 {
+        let all: u64 = self.steps.iter().flatten().sum();
+        all - STEPS.iter().map(|(from, to)| self.steps[*from][*to]).sum::<u64>()
+    }
+}
+
+impl Table for Coverage {
+    const FAMILY: Family = Family::Scenes;
+
+    fn begin(&mut self, device: &Crate, budget: u64) {
+        self.budget = budget;
+        self.ticks = 0;
+        self.last = Some(device.clone());
+    }
+
+    fn rows(&self) -> Vec<(String, u64)> {
         let mut rows: Vec<(String, u64)> = Vec::new();
         for (class, name) in CLASSES {
             rows.push((name.to_string(), self.classes[class as usize]));
@@ -502,43 +578,8 @@ impl Coverage {
         rows
     }
 
-    /// Written where the map lets it, refused elsewhere.
-    fn block_rows(&self, rows: &mut Vec<(String, u64)>) {
-        for (k, (name, first, _)) in BLOCKS.iter().enumerate() {
-            let writable = map::register(*first).is_some_and(|register| !map::read_only(register));
-            let (what, n) = match writable {
-                true => ("written", self.block_written[k]),
-                false => ("refused", self.block_refused[k]),
-            };
-            rows.push((format!("{name}, {what}"), n));
-        }
-        let outputs = BLOCKS.iter().position(|block| block.1 == 0x1100).expect("in the list");
-        rows.push(("gaps between the output blocks, refused".to_string(), self.block_refused[outputs]));
-        rows.extend(BLOCKS.iter().zip(self.block_unused).filter(|row| has_unused(row.0 .1)).map(|(block, n)| {
-            (format!("{}, unused bits dropped", block.0), n)
-        }));
-    }
-
-    /// Steps that 01 does not list must not occur at all.
-    fn impossible_steps(&self) -> u64 {
-        let all: u64 = self.steps.iter().flatten().sum();
-        all - STEPS.iter().map(|(from, to)| self.steps[*from][*to]).sum::<u64>()
-    }
-
-    pub fn never_reached(&self) -> Vec<String> {
-        let mut names: Vec<String> = self.rows().into_iter().filter(|row| row.1 == 0).map(|row| row.0).collect();
-        if self.impossible_steps() != 0 {
-            names.push("no gate step outside 01's list".to_string());
-        }
-        names
-    }
-
-    pub fn text(&self) -> String {
-        let rows = self.rows();
-        let missing = self.never_reached();
-        let mut text: String = rows.iter().map(|(name, n)| format!("{n:>12}  {name}\n")).collect();
-        text += &format!("{} classes, {} never reached\n", rows.len(), missing.len());
-        missing.iter().fold(text, |text, name| text + "never reached: " + name + "\n")
+    fn broken(&self) -> Option<String> {
+        (self.impossible_steps() != 0).then(|| "no gate step outside 01's list".to_string())
     }
 }
 

@@ -1,8 +1,10 @@
-//! Random traces: a seed gives the bytes, always the same ones.
+//! Random traces: a family and a seed give the bytes, always the same ones.
 //!
 //! A trace is made of scenes (patching, gate cycles, reloads, ...) played on
 //! a small pool of lines and counters, so that the scenes meet each other. A
 //! part of the traces is damaged at the end.
+
+mod repeats;
 
 use crate::model::bad_level;
 use crate::numbers::{GATE_BITS, INPUT_BITS};
@@ -41,11 +43,24 @@ impl Dice {
     }
 }
 
+/// The families of random traces.
+#[derive(Clone, Copy, Debug, PartialEq, Eq)]
+pub enum Family {
+    /// Scenes of all kinds, mostly in short repeats.
+    Scenes,
+    /// Long repeats around what can happen within one.
+    Repeats,
+}
+
 /// The trace so far and what it has set up.
 struct Script {
     dice: Dice,
     bytes: Vec<u8>,
+    /// Accepted so far, and left to be spent.
+    ticks: u64,
     ticks_left: u64,
+    /// Ticks at which something is due.
+    due: Vec<u64>,
     counters: Vec<u16>,
     inputs: Vec<u16>,
     gates: Vec<u16>,
@@ -106,9 +121,14 @@ impl Script {
     /// Cuts the repeat to what the trace may still spend, but never to 0.
     fn tick_with(&mut self, repeat: u64, inputs: u64, gates: u16) {
         let repeat = repeat.min(self.ticks_left).clamp(1, 65_535);
+        self.ticks += repeat;
         self.ticks_left = self.ticks_left.saturating_sub(repeat);
+        self.tick_record(repeat as u16, inputs, gates);
+    }
+
+    fn tick_record(&mut self, repeat: u16, inputs: u64, gates: u16) {
         self.bytes.extend([0x01, 0x00, 0x0B]);
-        self.bytes.extend((repeat as u16).to_be_bytes());
+        self.bytes.extend(repeat.to_be_bytes());
         self.bytes.extend(&inputs.to_be_bytes()[1..]);
         self.bytes.extend(gates.to_be_bytes());
     }
@@ -137,10 +157,14 @@ impl Script {
     fn selection(&mut self) -> u16 {
         match self.dice.below(20) {
             0..=12 => self.dice.one_of(&self.inputs),
-            13..=16 => 55 + self.dice.below(9) as u16,
+            13..=16 => self.test_signal(),
             17 => 54,
             _ => self.dice.below(54) as u16,
         }
+    }
+
+    fn test_signal(&mut self) -> u16 {
+        55 + self.dice.below(9) as u16
     }
 
     /// Mostly a pool gate, at times one that does not exist.
@@ -162,6 +186,12 @@ impl Script {
             _ => self.dice.one_of(&self.datasets),
         };
         self.dice.one_of(&self.groups) << 8 | dataset
+    }
+
+    /// Of a dataset and a group of the pool.
+    fn reload_by_tag(&mut self) {
+        let request = self.dice.one_of(&self.groups) << 8 | self.dice.one_of(&self.datasets);
+        self.command(0x1, request);
     }
 
     /// By tag, or by a rise of TRIGGER.
@@ -295,19 +325,23 @@ impl Script {
     fn gate_walk(&mut self) {
         let bit = 1 << self.gate();
         for _ in 0..2 + self.dice.below(8) {
-            match self.dice.below(8) {
-                0 => self.set_prepare(self.prepare ^ bit),
-                1 => self.command(0x2, bit),
-                2 => self.set_recover(self.recover ^ bit),
-                3 => self.command(0x3, bit),
-                4 | 5 => self.gate_levels ^= bit,
-                6 => self.set_mode(self.mode ^ bit),
-                _ => self.timeout_for(bit),
-            }
+            self.change_gate(bit);
             if self.dice.percent(80) {
                 let repeat = 1 + self.dice.below(3);
                 self.tick(repeat);
             }
+        }
+    }
+
+    fn change_gate(&mut self, bit: u16) {
+        match self.dice.below(8) {
+            0 => self.set_prepare(self.prepare ^ bit),
+            1 => self.command(0x2, bit),
+            2 => self.set_recover(self.recover ^ bit),
+            3 => self.command(0x3, bit),
+            4 | 5 => self.gate_levels ^= bit,
+            6 => self.set_mode(self.mode ^ bit),
+            _ => self.timeout_for(bit),
         }
     }
 
@@ -359,18 +393,22 @@ impl Script {
     }
 
     fn pulses(&mut self) {
-        let pool = self.pool_inputs();
         for _ in 0..1 + self.dice.below(8) {
-            self.input_levels = match self.dice.below(5) {
-                0 => 0,
-                1 => pool,
-                2 => self.dice.roll() & INPUT_BITS,
-                3 => self.input_levels ^ pool,
-                _ => self.dice.roll() & pool,
-            };
+            self.change_inputs();
             let repeat = self.dice.one_of(&[1, 1, 1, 2, 3]);
             self.tick(repeat);
         }
+    }
+
+    fn change_inputs(&mut self) {
+        let pool = self.pool_inputs();
+        self.input_levels = match self.dice.below(5) {
+            0 => 0,
+            1 => pool,
+            2 => self.dice.roll() & INPUT_BITS,
+            3 => self.input_levels ^ pool,
+            _ => self.dice.roll() & pool,
+        };
     }
 
     fn control_counters(&mut self) {
@@ -460,8 +498,7 @@ impl Script {
         self.write(0x0A01, 1);
         self.write(0x0A00, self.key);
         for _ in 0..self.dice.one_of(&[3, 9, 15, 16, 17, 18]) {
-            let request = self.dice.one_of(&self.groups) << 8 | self.dice.one_of(&self.datasets);
-            self.command(0x1, request);
+            self.reload_by_tag();
         }
         if self.dice.percent(60) {
             self.write(0x0A02, 0x0000);
@@ -522,10 +559,12 @@ impl Script {
     }
 
     fn reset_all_watchdogs(&mut self) {
-        for block in 0..4 {
-            self.write(0x0810 + block, 0xFFFF);
-            self.write(0x0810 + block, 0x0000);
-        }
+        (0..4).for_each(|block| self.reset_watchdogs(block));
+    }
+
+    fn reset_watchdogs(&mut self, block: u16) {
+        self.write(0x0810 + block, 0xFFFF);
+        self.write(0x0810 + block, 0x0000);
     }
 
     fn watchdog_reset(&mut self) {
@@ -660,11 +699,8 @@ impl Script {
             1 => gates |= 1 << (12 + self.dice.below(4)),
             _ => (inputs, gates) = (self.dice.roll() | 1 << 55, self.dice.word() | 0x8000),
         }
-        let left = self.ticks_left;
         let repeat = self.dice.one_of(&[1, 2, 0xFFFF]);
-        self.ticks_left = u64::MAX;
-        self.tick_with(repeat, inputs, gates);
-        self.ticks_left = left;
+        self.tick_record(repeat, inputs, gates);
     }
 }
 
@@ -685,7 +721,9 @@ impl Script {
         };
         Script {
             bytes: Vec::new(),
+            ticks: 0,
             ticks_left,
+            due: Vec::new(),
             counters: pool(&mut dice, 2, &[0, 1, 15, 16, 63, 64, 127], 128),
             inputs: pool(&mut dice, 1, &[0, 15, 16, 47, 48, 53], 54),
             gates: pool(&mut dice, 1, &[0, 3, 4, 11], 12),
@@ -806,8 +844,8 @@ fn short_trace(script: &mut Script) {
     }
 }
 
-/// The bytes of a seed's trace.
-pub fn trace(seed: u64) -> Vec<u8> {
+/// The bytes of a seed's trace of scenes.
+fn scenes(seed: u64) -> Vec<u8> {
     let mut script = Script::new(seed);
     let length = match script.dice.below(20) {
         0..=2 => {
@@ -830,39 +868,74 @@ pub fn trace(seed: u64) -> Vec<u8> {
     script.bytes
 }
 
-/// Ticks spent after each tick record that an endless budget would run.
-fn tick_sums(bytes: &[u8]) -> Vec<u64> {
-    let (mut sums, mut sum, mut at) = (Vec::new(), 0, 0);
-    while let Ok(found) = record(&bytes[at..]) {
-        if let Record::Tick { repeat, inputs, gates } = found {
-            if !bad_level(inputs, gates) {
-                sum += u64::from(repeat);
-                sums.push(sum);
-            }
-        }
-        at += found.bytes();
-    }
-    sums
+/// The end of a tick record, and the ticks spent there.
+#[derive(Clone, Copy)]
+struct TickEnd {
+    at: usize,
+    repeat: u16,
+    ticks: u64,
 }
 
-/// The budget for a seed's trace: mostly the program's, else one at the edge
-/// of some tick record, one tick short of it, or one tick more.
-pub fn budget(seed: u64) -> u64 {
-    let mut dice = Dice::new(!seed);
-    if dice.percent(65) {
-        return PROGRAM_TICKS;
+/// Of each tick record that an endless budget would run.
+fn tick_ends(bytes: &[u8]) -> Vec<TickEnd> {
+    let (mut ends, mut ticks, mut at) = (Vec::new(), 0, 0);
+    while let Ok(found) = record(&bytes[at..]) {
+        at += found.bytes();
+        if let Record::Tick { repeat, inputs, gates } = found {
+            if !bad_level(inputs, gates) {
+                ticks += u64::from(repeat);
+                ends.push(TickEnd { at, repeat, ticks });
+            }
+        }
     }
-    let sums = tick_sums(&trace(seed));
-    if sums.is_empty() {
-        return dice.below(3);
+    ends
+}
+
+impl Family {
+    /// The bytes of a seed's trace.
+    pub fn trace(self, seed: u64) -> Vec<u8> {
+        match self {
+            Family::Scenes => scenes(seed),
+            Family::Repeats => repeats::trace(seed),
+        }
     }
-    let edge = dice.one_of(&sums);
-    match dice.below(10) {
-        0 => 0,
-        1 => 1,
-        2..=5 => edge,
-        6..=8 => edge - 1,
-        _ => edge + 1,
+
+    /// The budget for a seed's trace: mostly one that lasts, else one at the edge
+    /// of some tick record, one tick short of it, or one tick more.
+    pub fn budget(self, seed: u64) -> u64 {
+        if self == Family::Repeats && repeats::to_the_top(seed) {
+            return u64::MAX;
+        }
+        let mut dice = Dice::new(!seed);
+        if dice.percent(65) {
+            return PROGRAM_TICKS;
+        }
+        let ends = tick_ends(&self.trace(seed));
+        if ends.is_empty() {
+            return dice.below(3);
+        }
+        let edge = dice.one_of(&ends).ticks;
+        match dice.below(10) {
+            0 => 0,
+            1 => 1,
+            2..=5 => edge,
+            6..=8 => edge - 1,
+            _ => edge + 1,
+        }
+    }
+
+    /// Where to look at a seed's trace: at its end and, as the next tick may
+    /// hide what a long repeat has left, behind some of the repeats.
+    pub fn looks(self, seed: u64) -> Vec<usize> {
+        let bytes = self.trace(seed);
+        let mut looks = match self {
+            Family::Scenes => Vec::new(),
+            Family::Repeats => repeats::looks(seed, &bytes),
+        };
+        looks.push(bytes.len());
+        looks.sort_unstable();
+        looks.dedup();
+        looks
     }
 }
 

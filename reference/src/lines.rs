@@ -7,7 +7,7 @@ pub const FIRST_TEST: usize = 55;
 pub const TEST_SIGNALS: usize = 9;
 /// Frequencies of selection values 55 to 63 in kHz.
 pub const TEST_KHZ: [u32; TEST_SIGNALS] = [10, 99, 100, 990, 1000, 9900, 10000, 24900, 25000];
-const PHASE_TURN: u32 = 125_000;
+pub const PHASE_TURN: u32 = 125_000;
 
 /// Which selection values (Manual, Table 3.25) rise in a tick, one bit each.
 /// Bit 54, ground, is never set.

@@ -1,9 +1,10 @@
 //! Commands of the reference model.
 #![forbid(unsafe_code)]
 
-use reference::coverage::Coverage;
+use reference::coverage::{repeats::RepeatCoverage, Coverage, Table};
+use reference::generator::Family;
+use reference::image;
 use reference::trace::{from_power_up, rehearse, run_and_print, report_line, PROGRAM_BYTES};
-use reference::{generator, image};
 use std::fs::File;
 use std::io::{self, Read, Write};
 use std::os::fd::AsFd;
@@ -15,7 +16,8 @@ reference trace SEED
 reference budget SEED
 reference coverage FIRST COUNT
 reference store FIRST COUNT
-reference print FIRST COUNT";
+reference print FIRST COUNT
+reference repeats ...: any of the last five, for traces of long repeats";
 
 fn main() -> ExitCode {
     let words: Vec<String> = std::env::args().skip(1).collect();
@@ -31,16 +33,24 @@ fn main() -> ExitCode {
 
 fn command(words: &[&str]) -> Result<ExitCode, String> {
     match words {
-        ["run"] => print(&rehearse(&standard_input()?)),
+        ["run"] => print(&rehearse(&standard_input()?))?,
         ["run", "--budget", budget, file] => {
             let bytes = std::fs::read(file).map_err(|e| format!("{file}: {e}"))?;
-            print(&run_and_print(&bytes, number(budget)?))
+            print(&run_and_print(&bytes, number(budget)?))?
         }
-        ["trace", seed] => write_out(&generator::trace(number(seed)?)),
-        ["budget", seed] => print(&format!("{}\n", generator::budget(number(seed)?))),
-        ["coverage", first, count] => return coverage(number(first)?, number(count)?),
-        ["store", first, count] => write_out(&stored(number(first)?, number(count)?)),
-        ["print", first, count] => print_lines(number(first)?, number(count)?),
+        ["repeats", words @ ..] => return of_family(Family::Repeats, words),
+        words => return of_family(Family::Scenes, words),
+    }
+    Ok(ExitCode::SUCCESS)
+}
+
+fn of_family(family: Family, words: &[&str]) -> Result<ExitCode, String> {
+    match words {
+        ["trace", seed] => write_out(&family.trace(number(seed)?)),
+        ["budget", seed] => print(&format!("{}\n", family.budget(number(seed)?))),
+        ["coverage", first, count] => return coverage(family, number(first)?, number(count)?),
+        ["store", first, count] => write_out(&stored(family, number(first)?, number(count)?)),
+        ["print", first, count] => print_lines(family, number(first)?, number(count)?),
         _ => Err(USAGE.to_string()),
     }?;
     Ok(ExitCode::SUCCESS)
@@ -67,8 +77,14 @@ fn standard_input() -> Result<Vec<u8>, String> {
     Ok(bytes)
 }
 
-fn coverage(first: u64, count: u64) -> Result<ExitCode, String> {
-    let mut table = Coverage::new();
+fn coverage(family: Family, first: u64, count: u64) -> Result<ExitCode, String> {
+    match family {
+        Family::Scenes => filled(Coverage::new(), first, count),
+        Family::Repeats => filled(RepeatCoverage::new(), first, count),
+    }
+}
+
+fn filled(mut table: impl Table, first: u64, count: u64) -> Result<ExitCode, String> {
     for seed in first..first + count {
         table.run_seed(seed);
     }
@@ -82,27 +98,27 @@ fn digest(words: impl Iterator<Item = u16>) -> u64 {
     words.fold(0, |d, word| (d * 65_599 + u64::from(word) + 1) % 4_294_967_291)
 }
 
-fn print_lines(first: u64, count: u64) -> Result<(), String> {
+fn print_lines(family: Family, first: u64, count: u64) -> Result<(), String> {
     for seed in first..first + count {
-        print(&seed_lines(seed))?;
+        print(&seed_lines(family, seed))?;
     }
     Ok(())
 }
 
 /// The report, and a digest of the image's words followed by the memory's words.
-fn seed_lines(seed: u64) -> String {
-    let (device, memory, report) = from_power_up(&generator::trace(seed), generator::budget(seed));
+fn seed_lines(family: Family, seed: u64) -> String {
+    let (device, memory, report) = from_power_up(&family.trace(seed), family.budget(seed));
     let words = image(&device, &memory).into_iter().chain(memory);
     format!("{}\nDIGEST {:08x}\n", report_line(&report), digest(words))
 }
 
 /// The traces of some seeds in one file: each behind its length in four bytes and its budget in eight, high byte first.
-fn stored(first: u64, count: u64) -> Vec<u8> {
+fn stored(family: Family, first: u64, count: u64) -> Vec<u8> {
     let mut file = Vec::new();
     for seed in first..first + count {
-        let trace = generator::trace(seed);
+        let trace = family.trace(seed);
         file.extend((trace.len() as u32).to_be_bytes());
-        file.extend(generator::budget(seed).to_be_bytes());
+        file.extend(family.budget(seed).to_be_bytes());
         file.extend(trace);
     }
     file

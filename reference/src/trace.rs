@@ -26,6 +26,19 @@ pub struct Report {
     pub refused: u64,
 }
 
+impl Report {
+    /// Of a run to its end, and of the run of the bytes behind it.
+    pub fn followed_by(self, part: Report) -> Report {
+        Report {
+            stop: part.stop,
+            next: self.next + part.next,
+            ticks: self.ticks + part.ticks,
+            records: self.records + part.records,
+            refused: self.refused + part.refused,
+        }
+    }
+}
+
 #[derive(Clone, Copy, Debug, PartialEq, Eq)]
 pub enum Record {
     Tick { repeat: u16, inputs: u64, gates: u16 },

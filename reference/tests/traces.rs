@@ -153,8 +153,8 @@ fn a_run_without_its_memory_changes_nothing() {
 fn a_run_in_two_parts_is_a_run_in_one() {
     let first = [write(0x1000, 0x0D80), write(0x0802, 1), tick(3, 1, 1)].concat();
     let second = [tick(2, 0, 1), tick(1, 1, 1), write(0x8004, 3)].concat();
-    let (whole, whole_memory, _) = from_power_up(&[&first[..], &second[..]].concat(), 100);
-    let (mut device, mut memory, _) = from_power_up(&first, 100);
-    run(&mut device, &mut memory, &second, 100);
-    assert_eq!((whole, whole_memory), (device, memory));
+    let (whole, whole_memory, report) = from_power_up(&[&first[..], &second[..]].concat(), 100);
+    let (mut device, mut memory, passed) = from_power_up(&first, 100);
+    let part = run(&mut device, &mut memory, &second, 100 - passed.ticks);
+    assert_eq!((whole, whole_memory, report), (device, memory, passed.followed_by(part)));
 }
