@@ -159,7 +159,17 @@ fn row(trace: &Trace, report: &Report) -> String {
     row
 }
 
+/// Runs the library once on each short trace and prints their ticks: for a count of instructions.
+fn once() -> ExitCode {
+    let ticks: u64 = traces::short().iter().map(|trace| by_library(trace).report.ticks).sum();
+    println!("{ticks}");
+    ExitCode::SUCCESS
+}
+
 fn main() -> ExitCode {
+    if std::env::args().nth(1).as_deref() == Some("once") {
+        return once();
+    }
     println!("{}", header());
     for trace in traces::all() {
         match check(&trace) {

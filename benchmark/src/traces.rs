@@ -21,6 +21,11 @@ pub fn all() -> [Trace; 5] {
     [idle(20_000_000), quiet(1_000_000), busy(300_000), repeat(300_000), records(100_000)]
 }
 
+/// Ticks one by one and in long repeats, few enough to count their instructions.
+pub fn short() -> [Trace; 2] {
+    [busy(30_000), repeat(10_000)]
+}
+
 impl Trace {
     fn new(name: &'static str) -> Trace {
         Trace { name, bytes: Vec::new(), ticks: 0 }

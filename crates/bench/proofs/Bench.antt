@@ -1,4 +1,4 @@
--- The tables hold: one computed test each, and one law that gives each row. The example prints as document 01 says.
+-- The table of starred checks holds: one computed test, and one law that gives each row. The example prints as document 01 says.
 use Prim.Native.Nat.{ℕ, _<_}
 use mathlib.Core.Bool.{true}
 use mathlib.Core.Path.{_≡_, refl}
@@ -6,11 +6,9 @@ use lib.ListN.{length, getD}
 use Rattle.lists.specs.Checks.{row, right}
 use Rattle.lists.proofs.Rows.{row-right}
 use Rattle.bench.proofs.Computing.{computing}
-use Rattle.sheet.specs.Requests.{standAfter}
 use Rattle.printing.specs.Printed.{programPrints}
 use Rattle.bench.specs.Example.{example, exampleText}
 use Rattle.bench.specs.Starred.{starred}
-use Rattle.bench.proofs.Worked.{worked, gateRows, counterRows, registerRows, refusalRows, loaderRows, boundRows, outputRows, traceRows, rawRows}
 
 starred-right : right starred ≡ true
 unfolding computing starred
@@ -19,14 +17,6 @@ starred-right = refl
 -- all nine starred checks
 pub starred-checks : (k : ℕ) → k < length starred → getD starred k (row 0 0) .computed ≡ getD starred k (row 0 0) .expected
 starred-checks = row-right starred starred-right
-
-worked-right : right worked ≡ true
-unfolding computing worked gateRows counterRows registerRows refusalRows loaderRows boundRows outputRows traceRows rawRows standAfter
-worked-right = refl
-
--- the worked cases
-pub worked-cases : (k : ℕ) → k < length worked → getD worked k (row 0 0) .computed ≡ getD worked k (row 0 0) .expected
-worked-cases = row-right worked worked-right
 
 -- the example trace prints document 01's four lines
 pub example-prints : programPrints example ≡ exampleText

@@ -1,13 +1,11 @@
--- `computing` opens every definition of the trace and of the crates below it by its `unfolding` line.
+-- `computing` opens every definition of the printed lines, of the trace and of the crates below it by its `unfolding` line.
 use mathlib.Core.Bool.{Bool}
 use mathlib.Core.List.{List}
 use Rattle.lists.specs.Checks.{Row, right}
-use Rattle.registers.proofs.Computing as registers
-use Rattle.printing.specs.Printed.{ascii, decimalIn, decimal, hexadecimal, stopText, reportLine, wordsFrom, printed, programRun, programPrints}
-use Rattle.trace.specs.Records.{numberAt, nextAt, ticksAt, payloadAt, recordAt}
-use Rattle.trace.specs.Run.{passes, repeated, ticksIn, callIn, byRecord, onceOf, runFrom, runOf}
+use Rattle.pages.specs.Text.{ascii, decimalIn, decimal, hexadecimal}
+use Rattle.printing.specs.Printed.{stopText, reportLine, wordsFrom, printed, programRun, programPrints}
+use Rattle.worked.proofs.Computing as worked
 
 unfoldable pub computing : List Row → Bool
-unfolding registers.computing ascii decimalIn decimal hexadecimal stopText reportLine wordsFrom printed programRun programPrints numberAt nextAt ticksAt payloadAt
-    recordAt passes repeated ticksIn callIn byRecord onceOf runFrom runOf
+unfolding worked.computing ascii decimalIn decimal hexadecimal stopText reportLine wordsFrom printed programRun programPrints
 computing rows = right rows

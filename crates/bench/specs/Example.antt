@@ -1,7 +1,7 @@
 -- Document 01, "Trace and printing program": the example trace and what the program prints for it.
 use Prim.Native.Nat.{ℕ}
 use mathlib.Core.List.{List, [], _∷_, _++_}
-use Rattle.printing.specs.Printed.{ascii}
+use Rattle.pages.specs.Text.{ascii}
 
 -- 02 00 04 10 00 0D 80, 02 00 04 08 02 00 01, 02 00 04 11 08 00 01, 01 00 0B 00 01 00 00 00 00 00 00 01 00 01
 unfoldable pub example : List ℕ

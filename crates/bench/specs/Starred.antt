@@ -3,7 +3,7 @@ use mathlib.Core.Bool.{true, false}
 use mathlib.Core.List.{List, [], _∷_, _++_}
 use lib.IntN.{pos}
 use lib.ListN.{replicate}
-use Rattle.words.specs.Signed.{wordOf}
+use Rattle.numbers.specs.Signed.{wordOf}
 use Rattle.lists.specs.Checks.{Row, row}
 use Rattle.counters.specs.Counter.{counter0, counterStep, withCount}
 use Rattle.registers.specs.Calls.{Call, tick, write, download}

@@ -1,1 +1,1 @@
-// Worked cases, computed by the prover: the starred bench checks, a table of the definitions, the example trace.
+// The starred bench checks and the example trace, computed by the prover.

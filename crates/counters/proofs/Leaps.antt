@@ -11,10 +11,10 @@ use lib.Dec.{lit<, ltb}
 use lib.IntN.{ℤ, pos, negsuc, _+ℤ_, _-ℤ_, +ℤ-one, -ℤ-one}
 use lib.ListN.{getD}
 use lib.Signed.{mag}
-use Rattle.words.specs.Signed.{highWord, joined, lowWord, signed, wordOf, wrapped}
+use Rattle.numbers.specs.Signed.{highWord, joined, lowWord, signed, wordOf, wrapped}
 use Rattle.words.specs.Word.{bit, bitOf}
-use Rattle.words.proofs.Complement.{word-lt, word-signed, wrapped-lt, wrapped-same}
-use Rattle.words.proofs.Tests.{and-not, cases}
+use Rattle.numbers.proofs.Complement.{word-lt, word-signed, wrapped-lt, wrapped-same}
+use Rattle.bools.proofs.Tests.{and-not, cases}
 use Rattle.lists.specs.Table.{each, tabulate}
 use Rattle.lists.proofs.Tables.{each-then, getD-each, getD-tabulate, tabulate-ext}
 use Rattle.counters.specs.declared.counter.Counter.{Counter}

@@ -5,8 +5,8 @@ use mathlib.Core.List.{List}
 use lib.IntN.{ℤ}
 use lib.ListN.{getD}
 use lib.Signed.{mag}
-use Rattle.words.specs.Pick.{pick}
-use Rattle.words.specs.Signed.{signed, wordOf}
+use Rattle.bools.specs.Pick.{pick}
+use Rattle.numbers.specs.Signed.{signed, wordOf}
 use Rattle.words.specs.Word.{bit}
 use Rattle.lists.specs.Table.{each}
 use Rattle.counters.specs.declared.counter.Counter.{Counter}

@@ -11,9 +11,9 @@ use crate::counter::Counter;
 fn count_after(z: i32, ups: u32, downs: u32) -> i32
     ensures { λ r. ⌜ r ≡ countAfter z ups downs ⌝ }
 {
-    let word = (words::high(z) as u64) * 65536 + (words::low(z) as u64);
+    let word = (numbers::high(z) as u64) * 65536 + (numbers::low(z) as u64);
     let next = (word + (ups as u64) + 4294967295 * (downs as u64)) % 4294967296;
-    words::join((next % 65536) as u16, (next / 65536) as u16)
+    numbers::join((next % 65536) as u16, (next / 65536) as u16)
 }
 
 // The counter with its rises counted.

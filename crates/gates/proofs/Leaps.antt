@@ -7,10 +7,10 @@ use mathlib.Core.Path.{_≡_, refl, sym, ap, _∙_}
 use borrow.Author.Tests.{lt-leb, lt-ltb, ltb-true, not-false, not-true}
 use lib.Dec.{ltb}
 use lib.ListN.{getD}
-use Rattle.words.specs.Pick.{pick}
+use Rattle.bools.specs.Pick.{pick}
 use Rattle.words.specs.Word.{bit}
 use Rattle.words.proofs.Gather.{pack-ext}
-use Rattle.words.proofs.Tests.{and-left, and-right, or-left, or-right, pick-elim}
+use Rattle.bools.proofs.Tests.{and-left, and-right, or-left, or-right, pick-elim}
 use Rattle.lists.specs.Table.{any}
 use Rattle.lists.proofs.Tables.{any-each, each-then, getD-each}
 use Rattle.gates.specs.declared.gate.Gate.{Gate}

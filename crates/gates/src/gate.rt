@@ -151,9 +151,9 @@ fn next_state(g: Gate, high: bool) -> GateState
     ensures { λ r. ⌜ r ≡ nextState (g .state) g high ⌝ }
 {
     let state = g.state;
-    let prepare = words::either(g.prepare, g.preparepulse);
-    let recover = words::either(g.recover, g.recoverpulse);
-    let rises = words::without(prepare, g.lastprepare);
+    let prepare = bools::either(g.prepare, g.preparepulse);
+    let recover = bools::either(g.recover, g.recoverpulse);
+    let rises = bools::without(prepare, g.lastprepare);
     match state {
         GateState::Idle => from_idle(g.mode, high, rises),
         GateState::Prepare => from_prepare(high, g.timer <= 1),
@@ -223,7 +223,7 @@ impl Gate {
         let was = self.state;
         let timer = timer_of(in_prepare(was), in_prepare(state), self.timer, self.timeout);
         let output = output_of(state, high);
-        let lastprepare = words::either(self.prepare, self.preparepulse);
+        let lastprepare = bools::either(self.prepare, self.preparepulse);
         Gate {
             state,
             timer,
@@ -270,7 +270,7 @@ impl Gate {
     fn pulse_prepare(mut self, b: bool) -> Gate
         ensures { λ r. ⌜ r ≡ withPreparePulse b self ⌝ }
     {
-        let pulse = words::either(self.preparepulse, b);
+        let pulse = bools::either(self.preparepulse, b);
         self.preparepulse = pulse;
         self
     }
@@ -278,7 +278,7 @@ impl Gate {
     fn pulse_recover(mut self, b: bool) -> Gate
         ensures { λ r. ⌜ r ≡ withRecoverPulse b self ⌝ }
     {
-        let pulse = words::either(self.recoverpulse, b);
+        let pulse = bools::either(self.recoverpulse, b);
         self.recoverpulse = pulse;
         self
     }

@@ -55,10 +55,10 @@ fn settled(high: bool, g: Gate) -> bool
     ensures { λ r. ⌜ r ≡ Leap·settled high g ⌝ }
 {
     let state = g.state;
-    let pulses = words::either(g.preparepulse, g.recoverpulse);
+    let pulses = bools::either(g.preparepulse, g.recoverpulse);
     let signal = same(g.lastprepare, g.prepare);
     let shown = same(g.output, output_of(state, high));
-    words::without(words::both(signal, shown), pulses)
+    bools::without(bools::both(signal, shown), pulses)
 }
 
 // Whether the state stays for k ticks at this level.
@@ -67,10 +67,10 @@ fn stays(k: u32, high: bool, g: Gate) -> bool
 {
     let state = g.state;
     match state {
-        GateState::Idle => words::without(!g.mode, high),
-        GateState::Prepare => words::without(k < g.timer, high),
+        GateState::Idle => bools::without(!g.mode, high),
+        GateState::Prepare => bools::without(k < g.timer, high),
         GateState::Open => high,
-        GateState::Waiting => words::without(g.prepare, high),
+        GateState::Waiting => bools::without(g.prepare, high),
         GateState::Error => !g.recover,
         GateState::Recover => g.recover,
         GateState::Direct => g.mode,
@@ -80,7 +80,7 @@ fn stays(k: u32, high: bool, g: Gate) -> bool
 fn steady(k: u32, high: bool, g: Gate) -> bool
     ensures { λ r. ⌜ r ≡ Leap·steady k high g ⌝ }
 {
-    words::both(settled(high, g), stays(k, high, g))
+    bools::both(settled(high, g), stays(k, high, g))
 }
 
 // Whether all gates stay for k ticks at these levels.

@@ -6,8 +6,8 @@ use mathlib.Core.List.{List}
 use mathlib.Core.Path.{_≡_, refl, sym, ap, _∙_}
 use borrow.Author.Tests.{eqb-true, not-false, not-true}
 use lib.Dec.{eqb}
-use Rattle.words.specs.Pick.{pick}
-use Rattle.words.proofs.Tests.{and-left, and-right, cases, or-left, or-right, pick-elim}
+use Rattle.bools.specs.Pick.{pick}
+use Rattle.bools.proofs.Tests.{and-left, and-right, cases, or-left, or-right, pick-elim}
 use Rattle.counters.specs.declared.counter.Counter.{Counter}
 use Rattle.gates.specs.declared.gate.Gate.{Gate}
 use Rattle.loader.specs.declared.loader.Loader.{Loader}
@@ -24,10 +24,10 @@ use Rattle.lines.proofs.Leaps.{Low, low-is, low-kept, no-input, phases-more, ph
 use Rattle.loader.specs.Loader.{isEmpty, loadInto, loaderStep, queueStep}
 use Rattle.watchdogs.specs.Watchdog.{stepWatchdogs}
 use Rattle.watchdogs.proofs.Leaps.{watchdogs-more, watchdogs-none}
-use Rattle.registers.specs.declared.state.Crate.{Crate}
-use Rattle.registers.specs.declared.state.Events.{Events}
-use Rattle.registers.specs.State.{commonOf, crateOf, restOf}
-use Rattle.registers.specs.Tick.{commonTick, handledBy, restTick, tickOf}
+use Rattle.device.specs.declared.state.Crate.{Crate}
+use Rattle.device.specs.declared.state.Events.{Events}
+use Rattle.device.specs.State.{commonOf, crateOf, restOf}
+use Rattle.ticking.specs.Tick.{commonTick, handledBy, restTick, tickOf}
 use Rattle.leaps.specs.Leap.{Formed, leapCommon, leapOf, leapRest, quiet, stretchOf, ticksOf}
 
 -- ---- what the test says

@@ -4,7 +4,7 @@ use native.Mathlib.Nat.{not-suc-le-zero}
 use mathlib.Core.Bool.{true}
 use mathlib.Core.List.{List}
 use mathlib.Core.Path.{_≡_}
-use Rattle.registers.specs.declared.state.Crate.{Crate}
+use Rattle.device.specs.declared.state.Crate.{Crate}
 use Rattle.leaps.specs.Leap.{Formed, leapOf, quiet, stretchOf, ticksOf}
 use Rattle.leaps.proofs.Leaps as Leaps
 

@@ -7,7 +7,7 @@ use lib.Dec.{lit<}
 use lib.IntN.{ℤ, pos, negsuc}
 use lib.ListN.{getD, length}
 use Prim.{tt}
-use Rattle.words.specs.Signed.{wordOf}
+use Rattle.numbers.specs.Signed.{wordOf}
 use Rattle.words.specs.Word.{bitOf}
 use Rattle.lists.specs.Checks.{Row, right, row}
 use Rattle.lists.specs.Table.{tabulate}
@@ -23,8 +23,8 @@ use Rattle.lines.specs.Leap.{leapPhases, lowPhases, phaseAfter, risesIn}
 use Rattle.watchdogs.specs.Leap.{leapWatchdogs, watchdogAfter}
 use Rattle.watchdogs.specs.Watchdog.{watchdogOf}
 use Rattle.registers.specs.Calls.{Call, after, tag, tick, write}
-use Rattle.registers.specs.Read.{readOf}
-use Rattle.registers.specs.State.{machine, memory0, powerUp}
+use Rattle.reading.specs.Read.{readOf}
+use Rattle.device.specs.State.{machine, memory0, powerUp}
 use Rattle.registers.proofs.Cases.{asked, counting}
 use Rattle.registers.proofs.Computing as registers
 use Rattle.leaps.specs.Leap.{Formed, leapCommon, leapOf, leapRest, quiet, stretchOf, ticksOf}

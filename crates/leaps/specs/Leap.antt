@@ -6,18 +6,18 @@ use mathlib.Core.List.{List}
 use mathlib.Core.Path.{_≡_}
 use lib.Dec.{eqb}
 use lib.ListN.{length}
-use Rattle.words.specs.Pick.{pick}
+use Rattle.bools.specs.Pick.{pick}
 use Rattle.counters.specs.Leap.{Ranged, leapCounters}
 use Rattle.gates.specs.Gate.{outputsOf}
 use Rattle.gates.specs.Leap.{horizon, leapGates, steadyGates}
 use Rattle.lines.specs.Leap.{leapPhases, lowPhases, risesIn}
 use Rattle.loader.specs.Loader.{isEmpty}
 use Rattle.watchdogs.specs.Leap.{leapWatchdogs}
-use Rattle.registers.specs.declared.state.Common.{Common}
-use Rattle.registers.specs.declared.state.Crate.{Crate}
-use Rattle.registers.specs.declared.state.Rest.{Rest}
-use Rattle.registers.specs.State.{commonOf, crateOf, restOf}
-use Rattle.registers.specs.Tick.{tickOf}
+use Rattle.device.specs.declared.state.Common.{Common}
+use Rattle.device.specs.declared.state.Crate.{Crate}
+use Rattle.device.specs.declared.state.Rest.{Rest}
+use Rattle.device.specs.State.{commonOf, crateOf, restOf}
+use Rattle.ticking.specs.Tick.{tickOf}
 
 -- so many ticks at the same levels, one by one
 unfoldable pub ticksOf : ℕ → Crate → List ℕ → ℕ → ℕ → Crate

@@ -4,10 +4,10 @@ ghost use Prim.Native.Nat.{min};
 ghost use lib.ListN.{length};
 ghost use Rattle.leaps.specs.Leap.{Formed, leapCommon, leapOf, leapRest, stretchOf};
 ghost use Rattle.leaps.specs.Leap.{quiet as Leap·quiet};
+use device::Common;
+use device::Crate;
+use device::Rest;
 use gates::GateBit;
-use registers::Common;
-use registers::Crate;
-use registers::Rest;
 
 // The phases move; queue and loader stay.
 fn leap_common(mut cm: Common, k: u32) -> Common
@@ -65,11 +65,11 @@ fn quiet(k: u32, s: Crate, inputs: u64, gatelevels: u16) -> bool
     let loader = common.loader;
     let queue = common.queue;
     let phases = common.phases;
-    let waiting = words::either(loader.busy, queue.waiting != 0);
-    let still = words::without(s.levels == inputs, waiting);
+    let waiting = bools::either(loader.busy, queue.waiting != 0);
+    let still = bools::without(s.levels == inputs, waiting);
     let low = lines::low_phases(phases);
     let steady = gates::steady_gates(gates, k, gatelevels);
-    words::both(still, words::both(low, steady))
+    bools::both(still, bools::both(low, steady))
 }
 
 // At most 2^32 - 1.

@@ -11,7 +11,7 @@ use lib.Dec.{leb, ltb}
 use lib.ListN.{getD, length}
 use Rattle.words.specs.Word.{bit, bitOf}
 use Rattle.words.proofs.Packing.{bit-pack}
-use Rattle.words.proofs.Tests.{and-not, cases}
+use Rattle.bools.proofs.Tests.{and-not, cases}
 use Rattle.lists.specs.Table.{any}
 use Rattle.lists.proofs.Tables.{any-each, each-stays, each-then, getD-each}
 use Rattle.lines.specs.Leap.{leapPhases, lowPhases, phaseAfter, phaseTotal, risesIn}

@@ -4,7 +4,7 @@ use mathlib.Core.Bool.{Bool, not}
 use mathlib.Core.List.{List}
 use lib.Dec.{leb, ltb}
 use lib.ListN.{getD}
-use Rattle.words.specs.Pick.{pick}
+use Rattle.bools.specs.Pick.{pick}
 use Rattle.lists.specs.Table.{any, each}
 use Rattle.lines.specs.Lines.{frequency, phaseLimit}
 

@@ -4,7 +4,7 @@ use mathlib.Core.Bool.{Bool}
 use mathlib.Core.List.{List, _++_}
 use lib.Dec.{eqb}
 use lib.ListN.{length, getD, take, drop}
-use Rattle.words.specs.Signed.{joined}
+use Rattle.numbers.specs.Signed.{joined}
 use Rattle.counters.specs.declared.counter.Counter.{Counter}
 use Rattle.counters.specs.Counter.{withThresholds}
 

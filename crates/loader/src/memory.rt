@@ -12,8 +12,8 @@ fn load_from(part: &[u16], n: usize, c: Counter) -> Counter
     ensures { λ r. ⌜ r ≡ loaded (now (part .entry)) (4 * n) c ⌝ }
 {
     let at = 4 * n;
-    let positive = words::join(part[at], part[at + 1]);
-    let negative = words::join(part[at + 2], part[at + 3]);
+    let positive = numbers::join(part[at], part[at + 1]);
+    let negative = numbers::join(part[at + 2], part[at + 3]);
     c.with_thresholds(positive, negative)
 }
 

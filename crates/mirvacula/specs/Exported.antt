@@ -4,16 +4,17 @@ use mathlib.Core.Bool.{Bool, _&&_}
 use mathlib.Core.List.{List, [], _∷_}
 use lib.Dec.{eqb}
 use lib.ListN.{length}
-use Rattle.words.specs.Pick.{pick}
+use Rattle.bools.specs.Pick.{pick}
 use Rattle.lists.specs.Table.{tabulate}
 use Rattle.loader.specs.Memory.{isWhole}
 use Rattle.registers.specs.Calls.{powered, poweredMemory}
-use Rattle.registers.specs.Read.{readOf}
-use Rattle.registers.specs.State.{Machine, machine}
+use Rattle.reading.specs.Read.{readOf}
+use Rattle.device.specs.State.{Machine, machine}
 use Rattle.trace.specs.declared.Report.{Report}
-use Rattle.trace.specs.declared.Stop.{Stop}
-use Rattle.trace.specs.declared.Stop.the-variants.{End, Spent, Memory, UnknownTag, WrongLength, Cut, NoRepeat}
-use Rattle.trace.specs.Run.{Run, machineOf, runOf, stopNumber}
+use Rattle.records.specs.declared.Stop.{Stop}
+use Rattle.records.specs.declared.Stop.the-variants.{End, Spent, Memory, UnknownTag, WrongLength, Cut, NoRepeat}
+use Rattle.trace.specs.Run.{Run, machineOf, runOf}
+use Rattle.records.specs.Stops.{stopNumber}
 
 -- why a run stopped, as a number: 0 for END, 254 for SPENT, else the number of 01's table
 abbrev pub stopCode : Stop → ℕ

@@ -2,16 +2,16 @@
 ghost use mathlib.Core.Path.{_≡_};
 ghost use lib.Dec.{eqb};
 ghost use lib.ListN.{length};
-ghost use Rattle.words.specs.Pick.{pick};
-ghost use Rattle.registers.specs.State.{machine};
+ghost use Rattle.bools.specs.Pick.{pick};
+ghost use Rattle.device.specs.State.{machine};
 ghost use Rattle.mirvacula.specs.Exported.{badBuffer, exported, exportOf, imageOf, imageWords, reportOf, reportWords, runOn, stopCode};
-ghost use Rattle.trace.specs.declared.Stop.the-variants.{Memory};
-ghost use Rattle.trace.specs.Run.{stopNumber};
+ghost use Rattle.records.specs.declared.Stop.the-variants.{Memory};
+ghost use Rattle.records.specs.Stops.{stopNumber};
 ghost use Rattle.trace.specs.Run.{run as Run·run};
-use registers::Crate;
+use device::Crate;
+use records::Stop;
 use trace::Progress;
 use trace::Report;
-use trace::Stop;
 
 // 0 for END, 254 for SPENT, else the cause's number.
 fn stop_code(stop: Stop) -> u16
@@ -80,7 +80,7 @@ pub extern "C" fn mirvacula_run(
 ) -> u16
     ensures { λ r. ⌜ exported r (now (mem .exit)) (now (report .exit)) (now (image .exit)) ≡ exportOf (now (mem .entry)) (now (bytes .entry)) budget (now (report .entry)) (now (image .entry)) ⌝ }
 {
-    if !words::both(report.len() == 5, image.len() == 0x1400) {
+    if !bools::both(report.len() == 5, image.len() == 0x1400) {
         return misfit_code(mem.len());
     }
     let end = run_from_power_up(mem, bytes, budget);

@@ -7,10 +7,10 @@ use borrow.Author.Tests.{eq-eqb, ltb-true, ltb-false}
 use lib.Dec.{ltb}
 use lib.ListN.{length, take}
 use lib.Seq.{take-all, take-length}
-use Rattle.words.proofs.Tests.{cases}
-use Rattle.registers.specs.declared.answer.Outcome.{Outcome}
+use Rattle.bools.proofs.Tests.{cases}
+use Rattle.device.specs.declared.answer.Outcome.{Outcome}
 use Rattle.registers.specs.Calls.{powered, poweredMemory}
-use Rattle.registers.specs.State.{machine, memory0}
+use Rattle.device.specs.State.{machine, memory0}
 use Rattle.trace.specs.declared.Progress.{Progress}
 use Rattle.trace.specs.Run.{Run, machineOf, runOf, run}
 use Rattle.printing.specs.Printed.{printed, programRun, programPrints}

@@ -5,12 +5,13 @@ use mathlib.Core.List.{List}
 use mathlib.Core.Path.{_≡_, refl}
 use lib.Dec.{ltb}
 use lib.ListN.{length, length-append}
-use Rattle.words.proofs.Tests.{both}
-use Rattle.registers.specs.State.{Machine}
+use Rattle.bools.proofs.Tests.{both}
+use Rattle.device.specs.State.{Machine}
 use Rattle.trace.specs.declared.Report.{Report}
-use Rattle.trace.specs.declared.Stop.{Stop}
-use Rattle.trace.specs.declared.Stop.the-variants.{End, Spent, Memory, UnknownTag, WrongLength, Cut, NoRepeat}
-use Rattle.printing.specs.Printed.{ascii, decimalIn, decimal, hexadecimal, stopText, reportLine, wordsFrom, printed}
+use Rattle.records.specs.declared.Stop.{Stop}
+use Rattle.records.specs.declared.Stop.the-variants.{End, Spent, Memory, UnknownTag, WrongLength, Cut, NoRepeat}
+use Rattle.pages.specs.Text.{ascii, decimalIn, decimal, hexadecimal}
+use Rattle.printing.specs.Printed.{stopText, reportLine, wordsFrom, printed}
 
 decimalIn-length : (places n : ℕ) → length (decimalIn places n) ≤ places
 unfolding decimalIn

@@ -3,14 +3,15 @@ ghost use mathlib.Core.Path.{_≡_};
 ghost use mathlib.Core.List.{_++_};
 ghost use Prim.Native.Nat.{_+_, _≤_, _<_, min};
 ghost use lib.ListN.{length};
-ghost use Rattle.registers.specs.State.{machine};
-ghost use Rattle.printing.specs.Page.{written, cut};
-ghost use Rattle.printing.specs.Printed.{ascii, wordsFrom, programBytes, programPrints};
+ghost use Rattle.device.specs.State.{machine};
+ghost use Rattle.pages.specs.Page.{written, cut};
+ghost use Rattle.pages.specs.Text.{ascii};
+ghost use Rattle.printing.specs.Printed.{wordsFrom, programBytes, programPrints};
 ghost use Rattle.printing.specs.Printed.{printed as Printed·printed};
-use crate::digits::put_hexadecimal;
-use crate::page::Page;
 use crate::report::put_report;
-use registers::Crate;
+use device::Crate;
+use pages::Page;
+use pages::put_hexadecimal;
 use trace::Report;
 
 // The words of n registers from an address on.

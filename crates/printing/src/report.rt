@@ -1,12 +1,13 @@
 // The report of a run in one line.
 ghost use mathlib.Core.Path.{_≡_};
 ghost use mathlib.Core.List.{_++_};
-ghost use Rattle.printing.specs.Page.{written, cut};
-ghost use Rattle.printing.specs.Printed.{decimal, stopText, reportLine};
-use crate::digits::put_decimal;
-use crate::page::Page;
+ghost use Rattle.pages.specs.Page.{written, cut};
+ghost use Rattle.pages.specs.Text.{decimal};
+ghost use Rattle.printing.specs.Printed.{stopText, reportLine};
+use pages::Page;
+use pages::put_decimal;
+use records::Stop;
 use trace::Report;
-use trace::Stop;
 
 // END, SPENT or the number of a refusal.
 fn put_stop(page: Page, stop: Stop) -> Page

@@ -3,9 +3,9 @@ use Prim.Native.Nat.{ℕ, zero, suc, _+_, _*_}
 use mathlib.Core.List.{List, [], _∷_, _++_}
 use lib.ListN.{replicate}
 use Rattle.words.specs.Word.{bit, bitOf}
-use Rattle.registers.specs.Answer.{numberOf}
+use Rattle.device.specs.Answer.{numberOf}
 use Rattle.registers.specs.Calls.{Call, tick, write, answer, after}
-use Rattle.registers.specs.Read.{readOf}
+use Rattle.reading.specs.Read.{readOf}
 
 -- the word at an address after a list, and a bit of it
 abbrev pub reads : List Call → ℕ → ℕ

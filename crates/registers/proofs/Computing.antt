@@ -12,13 +12,13 @@ use Rattle.loader.specs.Loader.{pushed, oldest, shifted, dropped, loaderStep, q
 use Rattle.loader.specs.Memory.{wordAt, loaded, replaced}
 use Rattle.watchdogs.specs.Watchdog.{watchdogStep, stepWatchdogs, withReset, resetIn, resetWatchdogs, watchdogAt, watchdogWord}
 use Rattle.registers.specs.Calls.{downloadAnswer, callAnswer, called, answer, step, powered, poweredMemory, from, after}
-use Rattle.registers.specs.Interlock.{signals, tripsBy, trips, interlocks}
-use Rattle.registers.specs.Map.{backplaneMap, statusMap, controlMap, eventMap, counterMap, decodeOf, kept}
-use Rattle.registers.specs.Read.{moduleWord, statusWord, settingWord, wordIn, readOf}
-use Rattle.registers.specs.State.{powerUp, memory0}
-use Rattle.registers.specs.Tag.{tagRequest, commanded, tagOf, tagAnswer}
-use Rattle.registers.specs.Tick.{badLevels, commonTick, restTick, tickOf}
-use Rattle.registers.specs.Write.{requestAnswer, requested, reloadAnswer, reloadWrite, controlWrite, keyWrite, enableWrite, restWrite, writeAnswer, resetBy, writeAt}
+use Rattle.interlocks.specs.Interlock.{signals, tripsBy, trips, interlocks}
+use Rattle.device.specs.Map.{backplaneMap, statusMap, controlMap, eventMap, counterMap, decodeOf, kept}
+use Rattle.reading.specs.Read.{moduleWord, statusWord, settingWord, wordIn, readOf}
+use Rattle.device.specs.State.{powerUp, memory0}
+use Rattle.tagging.specs.Tag.{tagRequest, commanded, tagOf, tagAnswer}
+use Rattle.ticking.specs.Tick.{badLevels, commonTick, restTick, tickOf}
+use Rattle.writing.specs.Write.{requestAnswer, requested, reloadAnswer, reloadWrite, controlWrite, keyWrite, enableWrite, restWrite, writeAnswer, resetBy, writeAt}
 
 unfoldable pub computing : List Row → Bool
 unfolding bit nibble fields fieldsFrom pack maskedBits tableFrom tabulate each any counterStep counterTick tickCounters

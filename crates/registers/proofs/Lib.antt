@@ -1,10 +1,7 @@
 pub mod Cases
 pub mod Computing
 pub mod Lists
-pub mod Meeting
 pub mod Overflows
-pub mod Past
 pub mod Refused
 pub mod Slips
-pub mod Stored
 pub mod Whole

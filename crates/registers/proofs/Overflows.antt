@@ -11,11 +11,11 @@ use Rattle.words.proofs.Packing.{bit-pack}
 use Rattle.counters.specs.declared.counter.Counter.{Counter}
 use Rattle.counters.specs.Counter.{counterAt, isOver, isUnder, overflowWord}
 use Rattle.loader.specs.Memory.{memoryWords}
-use Rattle.registers.specs.declared.map.Register.the-variants.{Readout}
-use Rattle.registers.specs.declared.map.Status.the-variants.{Negative, Positive}
-use Rattle.registers.specs.Map.{decodeOf, statusMap}
-use Rattle.registers.specs.Read.{readOf, statusWord, wordIn}
-use Rattle.registers.specs.State.{Machine}
+use Rattle.device.specs.declared.map.Register.the-variants.{Readout}
+use Rattle.device.specs.declared.map.Status.the-variants.{Negative, Positive}
+use Rattle.device.specs.Map.{decodeOf, statusMap}
+use Rattle.reading.specs.Read.{readOf, statusWord, wordIn}
+use Rattle.device.specs.State.{Machine}
 
 decode-negative : (k : ℕ) → k < 8 → decodeOf (0x0700 + k) ≡ Readout (Negative k)
 unfolding decodeOf statusMap

@@ -3,17 +3,17 @@ use Prim.Native.Nat.{ℕ}
 use mathlib.Core.Bool.{true, false, true≢false}
 use mathlib.Core.Path.{_≡_, refl, ap}
 use lib.Dec.{eqb}
-use Rattle.words.proofs.Tests.{cases}
-use Rattle.registers.specs.declared.map.Register.{Register}
-use Rattle.registers.specs.declared.map.Register.the-variants.{Nothing, Readout, Other, Control, Mode, Timeout, Key, Enable, Reload, Prepare, Recover, Input, Group, Word}
-use Rattle.registers.specs.Answer.{isDone}
+use Rattle.bools.proofs.Tests.{cases}
+use Rattle.device.specs.declared.map.Register.{Register}
+use Rattle.device.specs.declared.map.Register.the-variants.{Nothing, Readout, Other, Control, Mode, Timeout, Key, Enable, Reload, Prepare, Recover, Input, Group, Word}
+use Rattle.device.specs.Answer.{isDone}
 use Rattle.loader.specs.Memory.{isWhole}
 use Rattle.registers.specs.Calls.{Call, tick, write, tag, download, answer, callAnswer, called, leftByRefusal, step}
-use Rattle.registers.specs.Map.{decodeOf}
-use Rattle.registers.specs.State.{Machine, withState}
-use Rattle.registers.specs.Tag.{commandOf, commanded, eventsOn, notedIn, rightKey, tagAnswer, tagOf, tagRequest}
-use Rattle.registers.specs.Tick.{badLevels}
-use Rattle.registers.specs.Write.{reloadWrite, writeAnswer, writeAt}
+use Rattle.device.specs.Map.{decodeOf}
+use Rattle.device.specs.State.{Machine, withState}
+use Rattle.tagging.specs.Tag.{commandOf, commanded, eventsOn, notedIn, rightKey, tagAnswer, tagOf, tagRequest}
+use Rattle.ticking.specs.Tick.{badLevels}
+use Rattle.writing.specs.Write.{reloadWrite, writeAnswer, writeAt}
 
 refused-write : (m : Machine) (r : Register) (w : ℕ) → isDone (writeAnswer (m .state .common) r w) ≡ false → writeAt m r w ≡ m
 unfolding writeAnswer writeAt reloadWrite

@@ -1,4 +1,4 @@
--- Document 01, "Slips to expect": worked cases that a definition with the slip does not meet. Each must-fail edit of specs/ plays one.
+-- Document 01, "Slips to expect": worked cases that a definition with the slip does not meet. The must-fail edit idle_crate is refused by them.
 use mathlib.Core.Bool.{true}
 use mathlib.Core.List.{List, [], _∷_}
 use mathlib.Core.Path.{_≡_, refl}

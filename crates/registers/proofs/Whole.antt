@@ -7,18 +7,18 @@ use mathlib.Core.Path.{_≡_, sym, _∙_}
 use borrow.Author.Tests.{eq-eqb, eqb-true, ltb-false}
 use lib.Dec.{eqb, ltb}
 use lib.ListN.{length, length-set}
-use Rattle.words.proofs.Tests.{both, cases, pick-elim}
+use Rattle.bools.proofs.Tests.{both, cases, pick-elim}
 use Rattle.lists.proofs.Splice.{length-spliced}
 use Rattle.loader.specs.Memory.{replaced}
-use Rattle.registers.specs.declared.map.Register.{Register}
-use Rattle.registers.specs.declared.map.Register.the-variants.{Nothing, Readout, Other, Control, Mode, Timeout, Key, Enable, Reload, Prepare, Recover, Input, Group, Word}
-use Rattle.registers.specs.Answer.{isDone}
+use Rattle.device.specs.declared.map.Register.{Register}
+use Rattle.device.specs.declared.map.Register.the-variants.{Nothing, Readout, Other, Control, Mode, Timeout, Key, Enable, Reload, Prepare, Recover, Input, Group, Word}
+use Rattle.device.specs.Answer.{isDone}
 use Rattle.loader.specs.Memory.{isWhole}
 use Rattle.registers.specs.Calls.{Call, tick, write, tag, download, called, downloadAnswer, step}
-use Rattle.registers.specs.Map.{decodeOf}
-use Rattle.registers.specs.State.{Machine}
-use Rattle.registers.specs.Tick.{badLevels}
-use Rattle.registers.specs.Write.{writeAt}
+use Rattle.device.specs.Map.{decodeOf}
+use Rattle.device.specs.State.{Machine}
+use Rattle.ticking.specs.Tick.{badLevels}
+use Rattle.writing.specs.Write.{writeAt}
 
 -- what an accepted download says of its numbers
 pub accepted : (d n : ℕ) → isDone (downloadAnswer d n) ≡ true → (n ≡ 512) × (d < 32)

@@ -4,20 +4,20 @@ use mathlib.Core.Bool.{Bool, not}
 use mathlib.Core.List.{List, [], _∷_}
 use lib.Dec.{eqb}
 use lib.ListN.{length}
-use Rattle.words.specs.Pick.{pick}
+use Rattle.bools.specs.Pick.{pick}
 use Rattle.words.specs.Word.{bitOf}
 use Rattle.loader.specs.Loader.{isBeyond}
 use Rattle.loader.specs.Memory.{datasetWords, isWhole, replaced}
-use Rattle.registers.specs.declared.answer.Answer.{Answer}
-use Rattle.registers.specs.declared.answer.Answer.the-variants.{Done, Memory, Dataset, Level, Length}
-use Rattle.registers.specs.declared.answer.Outcome.{Outcome}
-use Rattle.registers.specs.declared.state.Crate.{Crate}
-use Rattle.registers.specs.Answer.{isDone}
-use Rattle.registers.specs.Map.{decodeOf}
-use Rattle.registers.specs.State.{Machine, machine, memory0, powerUp, withMemory, withState}
-use Rattle.registers.specs.Tag.{notedIn, tagAnswer, tagOf}
-use Rattle.registers.specs.Tick.{badLevels, tickOf}
-use Rattle.registers.specs.Write.{writeAnswer, writeAt}
+use Rattle.device.specs.declared.answer.Answer.{Answer}
+use Rattle.device.specs.declared.answer.Answer.the-variants.{Done, Memory, Dataset, Level, Length}
+use Rattle.device.specs.declared.answer.Outcome.{Outcome}
+use Rattle.device.specs.declared.state.Crate.{Crate}
+use Rattle.device.specs.Answer.{isDone}
+use Rattle.device.specs.Map.{decodeOf}
+use Rattle.device.specs.State.{Machine, machine, memory0, powerUp, withMemory, withState}
+use Rattle.tagging.specs.Tag.{notedIn, tagAnswer, tagOf}
+use Rattle.ticking.specs.Tick.{badLevels, tickOf}
+use Rattle.writing.specs.Write.{writeAnswer, writeAt}
 
 -- a call: levels of inputs and gates, address and word, an event tag, dataset and words
 pub data Call : Type 0 where

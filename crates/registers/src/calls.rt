@@ -2,16 +2,16 @@
 ghost use mathlib.Core.Path.{_≡_};
 ghost use Rattle.registers.specs.Calls.{outcomeOf, step, powered, poweredMemory};
 ghost use Rattle.registers.specs.Calls.{tick as Call·tick, write as Call·write, tag as Call·tag, download as Call·download};
-ghost use Rattle.registers.specs.Read.{readOf};
-ghost use Rattle.registers.specs.State.{machine, common0, rest0, powerUp};
-use crate::answer::Answer;
-use crate::answer::Outcome;
-use crate::answer::Read;
-use crate::state::Common;
-use crate::state::Crate;
-use crate::state::Events;
-use crate::state::Rest;
+ghost use Rattle.reading.specs.Read.{readOf};
+ghost use Rattle.device.specs.State.{machine, common0, rest0, powerUp};
 use counters::Counter;
+use device::Answer;
+use device::Common;
+use device::Crate;
+use device::Events;
+use device::Outcome;
+use device::Read;
+use device::Rest;
 use gates::Gate;
 use gates::GateState;
 use loader::Loader;
@@ -135,9 +135,9 @@ pub fn read(state: Crate, mem: &[u16], address: u16) -> Read
             word: 0,
         };
     }
-    let register = crate::map::decode(address);
-    let answer = crate::reading::answer_for(register);
-    let word = crate::reading::word_in(state, mem, register);
+    let register = device::decode(address);
+    let answer = reading::answer_for(register);
+    let word = reading::word_in(state, mem, register);
     Read { answer, word }
 }
 
@@ -151,10 +151,10 @@ pub fn write(state: Crate, mem: &mut [u16], address: u16, word: u16) -> Outcome
             state,
         };
     }
-    let register = crate::map::decode(address);
+    let register = device::decode(address);
     let common = state.common;
-    let answer = crate::writing::write_answer(common, register, word);
-    let next = crate::writing::write_at(state, mem, register, word);
+    let answer = writing::write_answer(common, register, word);
+    let next = writing::write_at(state, mem, register, word);
     Outcome {
         answer,
         state: next,
@@ -172,8 +172,8 @@ pub fn tag(state: Crate, mem: &[u16], t: u32) -> Outcome
         };
     }
     let common = state.common;
-    let answer = crate::events::tag_answer(common, t);
-    let next = crate::events::tag_crate(state, t);
+    let answer = tagging::tag_answer(common, t);
+    let next = tagging::tag_crate(state, t);
     Outcome {
         answer,
         state: next,
@@ -190,13 +190,13 @@ pub fn tick(state: Crate, mem: &[u16], inputs: u64, gates: u16) -> Outcome
             state,
         };
     }
-    if crate::ticking::bad_levels(inputs, gates) {
+    if ticking::bad_levels(inputs, gates) {
         return Outcome {
             answer: Answer::Level,
             state,
         };
     }
-    let next = crate::ticking::tick_crate(state, mem, inputs, gates);
+    let next = ticking::tick_crate(state, mem, inputs, gates);
     Outcome {
         answer: Answer::Done,
         state: next,

@@ -1,25 +1,21 @@
-// Runs the checks that document 01 wants run, one of raw counts and those of very long runs, each from power-up, and prints the register that
-// shows the result; then the stored traces.
-mod long;
-mod page;
-mod stored;
-mod traces;
+// Runs the checks that document 01 wants run, each from power-up, and prints the register that shows the result.
+use pages::Page;
+use playing::write;
 
-use page::write;
-use printing::Page;
-
-// The word of a register after a trace, in a line behind the check's name.
-fn check(name: &[u8], trace: &[u8], address: u16) {
+// The word of a register after the trace of a file, in a line behind the check's name.
+fn check(name: &[u8], file: &[u8], address: u16) {
     let mut mem = [0u16; 16384];
-    let start = registers::power_up(&mut mem);
-    let first = start.state;
-    let end = trace::run(first, &mut mem, trace, 1000000);
-    let state = end.state;
+    let state = playing::begin(&mut mem, file);
     let read = registers::read(state, &mem, address);
-    let line = printing::put_hexadecimal(Page::new().put_text(name), 4, read.word as u64).put(
-        b'\n',
-    );
-    write(line);
+    let line = pages::put_hexadecimal(Page::new().put_text(name), 4, read.word as u64);
+    write(line.put(b'\n'));
+}
+
+// 01's example, as the program prints it.
+fn example() {
+    let mut buf = io::large_buffer();
+    let n = playing::load(b"example", &mut buf);
+    write(printing::rehearse(&buf[..n]));
 }
 
 // The tick of the first rise of a test signal, counted by counter 0 on a direct gate; 0 if there is none in 20,000.
@@ -48,63 +44,35 @@ fn first_rises() {
     let mut signal: u16 = 55;
     while signal < 64 {
         let tick = first_rise(signal);
-        line = printing::put_decimal(line.put(b' '), tick);
+        line = pages::put_decimal(line.put(b' '), tick);
         signal += 1;
     }
     write(line.put(b'\n'));
 }
 
-// The raw count of input 53, high word first, after 65,538 rises while RESET is set.
-fn raw_rises() {
-    let mut mem = [0u16; 16384];
-    let start = registers::power_up(&mut mem);
-    let reset = registers::write(start.state, &mut mem, 0x0801, 1);
-    let mut state = reset.state;
-    let mut rises: u32 = 0;
-    while rises < 65538 {
-        let high = registers::tick(state, &mem, 0x0020_0000_0000_0000, 0);
-        let low = registers::tick(high.state, &mem, 0, 0);
-        state = low.state;
-        rises += 1;
-    }
-    let high_word = registers::read(state, &mem, 0x136B);
-    let low_word = registers::read(state, &mem, 0x136A);
-    let name = Page::new().put_text(b"raw count after 65538 rises under RESET: ");
-    let half = printing::put_hexadecimal(name, 4, high_word.word as u64);
-    write(printing::put_hexadecimal(half, 4, low_word.word as u64).put(b'\n'));
-}
-
 // Watchdog errors of inputs 0 to 15, and states of gates 0 to 3.
 fn timeouts() {
-    check(
-        b"watchdogs, rises 128 apart: ",
-        &traces::RISES_128_APART,
-        0x0711,
-    );
-    check(
-        b"watchdogs, rises 129 apart: ",
-        &traces::RISES_129_APART,
-        0x0711,
-    );
-    check(b"gates, 16383 low ticks: ", &traces::LOW_16383, 0x071A);
-    check(b"gates, 16384 low ticks: ", &traces::LOW_16384, 0x071A);
+    check(b"watchdogs, rises 128 apart: ", b"rises_128_apart", 0x0711);
+    check(b"watchdogs, rises 129 apart: ", b"rises_129_apart", 0x0711);
+    check(b"gates, 16383 low ticks: ", b"low_16383", 0x071A);
+    check(b"gates, 16384 low ticks: ", b"low_16384", 0x071A);
 }
 
 // The count of counter 0, and the state of its gate.
 fn autoreset() {
     check(
         b"AUTORESET, gate opened twice, count: ",
-        &traces::GATE_REOPENED,
+        b"gate_reopened",
         0x1200,
     );
     check(
         b"AUTORESET, gate in ERROR, count: ",
-        &traces::GATE_IN_ERROR,
+        b"gate_in_error",
         0x1200,
     );
     check(
         b"AUTORESET, gate in ERROR, gates: ",
-        &traces::GATE_IN_ERROR,
+        b"gate_in_error",
         0x071A,
     );
 }
@@ -113,24 +81,20 @@ fn autoreset() {
 fn reload() {
     check(
         b"written during a reload, counter 0: ",
-        &traces::WRITTEN_DURING_RELOAD,
+        b"written_during_reload",
         0x1800,
     );
     check(
         b"written during a reload, counter 127: ",
-        &traces::WRITTEN_DURING_RELOAD,
+        b"written_during_reload",
         0x19FC,
     );
 }
 
 fn main() {
-    write(printing::rehearse(&traces::EXAMPLE));
+    example();
     timeouts();
     first_rises();
-    raw_rises();
-    long::wraps();
-    long::watchdog_top();
     reload();
     autoreset();
-    stored::run_all();
 }

@@ -2,7 +2,7 @@
 -- the two are the same by computing. So the theorems of Returned.antt rest on the contracts and on nothing read by eye.
 use mathlib.Core.Path.{_≡_, refl}
 use Rattle.registers.specs.Calls.{tick, write, tag, download}
-use Rattle.registers.specs.State.{machine}
+use Rattle.device.specs.State.{machine}
 use Rattle.registers.proofs.power_up.Reads as power-up-reads
 use Rattle.registers.proofs.read.Reads as read-reads
 use Rattle.registers.proofs.write.Reads as write-reads

@@ -10,24 +10,24 @@ use borrow.Author.Tests.{eqb-true, eqb-false, ltb-true, ltb-false, lt-ltb, le-lt
 use lib.Dec.{eqb, ltb}
 use lib.ListN.{getD, length}
 use lib.Seq.{getD-set-same, getD-set-other}
-use Rattle.words.specs.Pick.{pick}
-use Rattle.words.proofs.Tests.{and-left, and-right, both, cases}
+use Rattle.bools.specs.Pick.{pick}
+use Rattle.bools.proofs.Tests.{and-left, and-right, both, cases}
 use Rattle.lists.proofs.Tables.{getD-tabulate, length-tabulate}
 use Rattle.loader.specs.declared.loader.Loader.{Loader}
 use Rattle.loader.specs.declared.loader.Queue.{Queue}
 use Rattle.loader.specs.declared.loader.Request.{Request}
 use Rattle.loader.specs.Loader.{dropped, isEmpty, loaderStep, oldest, pushed, queueStep, request0, requestFor, shifted}
-use Rattle.registers.specs.declared.map.Register.{Register}
-use Rattle.registers.specs.declared.map.Register.the-variants.{Nothing, Readout, Other, Control, Mode, Timeout, Key, Enable, Reload, Prepare, Recover, Input, Group, Word}
-use Rattle.registers.specs.declared.state.Common.{Common}
-use Rattle.registers.specs.declared.state.Crate.{Crate}
-use Rattle.registers.specs.Answer.{isDone}
+use Rattle.device.specs.declared.map.Register.{Register}
+use Rattle.device.specs.declared.map.Register.the-variants.{Nothing, Readout, Other, Control, Mode, Timeout, Key, Enable, Reload, Prepare, Recover, Input, Group, Word}
+use Rattle.device.specs.declared.state.Common.{Common}
+use Rattle.device.specs.declared.state.Crate.{Crate}
+use Rattle.device.specs.Answer.{isDone}
 use Rattle.registers.specs.Calls.{Call, tick, write, tag, download, acceptedTicks, after, called, downloadAnswer, from, machine0, step, tickOne}
-use Rattle.registers.specs.Map.{decodeOf, eventMap, kept}
-use Rattle.registers.specs.State.{Machine, memory0, powerUp, withState}
-use Rattle.registers.specs.Tag.{commandOf, commanded, eventsOn, rightKey, tagOf, tagRequest}
-use Rattle.registers.specs.Tick.{badLevels, commonTick, tickOf}
-use Rattle.registers.specs.Write.{controlWrite, datasetIn, enableWrite, groupIn, keyWrite, onCommon, reloadAnswer, reloadWrite, requestAnswer, requested, triggers, withReload, writeAt}
+use Rattle.device.specs.Map.{decodeOf, eventMap, kept}
+use Rattle.device.specs.State.{Machine, memory0, powerUp, withState}
+use Rattle.tagging.specs.Tag.{commandOf, commanded, eventsOn, rightKey, tagOf, tagRequest}
+use Rattle.ticking.specs.Tick.{badLevels, commonTick, tickOf}
+use Rattle.writing.specs.Write.{controlWrite, datasetIn, enableWrite, groupIn, keyWrite, onCommon, reloadAnswer, reloadWrite, requestAnswer, requested, triggers, withReload, writeAt}
 use Rattle.registers.proofs.Lists.{full-from}
 use Rattle.registers.proofs.Whole.{full, step-called}
 use Rattle.sheet.specs.Reachable.{CommonInRange}

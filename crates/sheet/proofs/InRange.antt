@@ -9,9 +9,9 @@ use lib.Dec.{leb, ltb, lit<}
 use lib.IntN.{ℤ, pos, _+ℤ_, _-ℤ_}
 use lib.ListN.{getD, length-set}
 use lib.Signed.{mag}
-use Rattle.words.specs.Signed.{joined}
-use Rattle.words.proofs.Complement.{signed-lt, wrapped-lt}
-use Rattle.words.proofs.Tests.{both, cases, pick-elim}
+use Rattle.numbers.specs.Signed.{joined}
+use Rattle.numbers.proofs.Complement.{signed-lt, wrapped-lt}
+use Rattle.bools.proofs.Tests.{both, cases, pick-elim}
 use Rattle.lists.proofs.All.{all-each, all-set, all-tabulate}
 use Rattle.lists.proofs.Tables.{length-tabulate}
 use Rattle.counters.specs.declared.counter.Counter.{Counter}
@@ -26,8 +26,8 @@ use Rattle.lines.specs.Lines.{frequency, phaseLimit, phaseStep, phaseSum, stepP
 use Rattle.loader.specs.Loader.{dropped, groupAt, takes, isBeyond, isEmpty, isFull, loadInto, loaderStep, oldest, pushed, queueStep, request0, shifted}
 use Rattle.loader.specs.Memory.{loaded, wordAt}
 use Rattle.watchdogs.specs.Watchdog.{watchdogStep, watchdogTop}
-use Rattle.registers.specs.Answer.{isDone}
-use Rattle.registers.specs.Write.{requestAnswer}
+use Rattle.device.specs.Answer.{isDone}
+use Rattle.writing.specs.Write.{requestAnswer}
 use Rattle.sheet.specs.Reachable.{CounterInRange, GateInRange, QueueInRange, RequestInRange}
 
 -- ---- counters

@@ -7,7 +7,7 @@ use mathlib.Core.Option.{Option, none, some}
 use mathlib.Core.Path.{_≡_, refl, sym, ap, _∙_}
 use Rattle.counters.specs.Counter.{counterAt}
 use Rattle.registers.specs.Calls.{Call, after, from, machine0, step}
-use Rattle.registers.specs.State.{Machine}
+use Rattle.device.specs.State.{Machine}
 use Rattle.registers.proofs.Overflows.{over-bit, under-bit}
 use Rattle.sheet.specs.Lines.{Holds, Lines, ownLines}
 use Rattle.sheet.specs.OwnPart.{Cut, Part, added, own, ownPart}

@@ -7,7 +7,7 @@ use mathlib.Core.Path.{_≡_, refl, _∙_}
 use borrow.Author.Tests.{eq-eqb, lt-ltb}
 use lib.Dec.{eqb}
 use lib.ListN.{length, length-set}
-use Rattle.words.proofs.Tests.{both, cases, pick-elim}
+use Rattle.bools.proofs.Tests.{both, cases, pick-elim}
 use Rattle.words.proofs.Fields.{field-low}
 use Rattle.lists.proofs.Tables.{length-each, length-tabulate}
 use Rattle.counters.specs.declared.counter.Counter.{Counter}
@@ -17,19 +17,19 @@ use Rattle.counters.specs.Counter.{clearCounters, counter0, counterStep, counte
 use Rattle.loader.specs.Loader.{groupAt, takes, loadInto}
 use Rattle.loader.specs.Memory.{loaded}
 use Rattle.gates.proofs.Gates.{length-eachGate}
-use Rattle.registers.specs.declared.map.Register.{Register}
-use Rattle.registers.specs.declared.map.Register.the-variants.{Nothing, Readout, Other, Control, Mode, Timeout, Key, Enable, Reload, Prepare, Recover, Input, Group, Word}
-use Rattle.registers.specs.declared.state.Common.{Common}
-use Rattle.registers.specs.declared.state.Crate.{Crate}
-use Rattle.registers.specs.declared.state.Rest.{Rest}
-use Rattle.registers.specs.Answer.{isDone}
+use Rattle.device.specs.declared.map.Register.{Register}
+use Rattle.device.specs.declared.map.Register.the-variants.{Nothing, Readout, Other, Control, Mode, Timeout, Key, Enable, Reload, Prepare, Recover, Input, Group, Word}
+use Rattle.device.specs.declared.state.Common.{Common}
+use Rattle.device.specs.declared.state.Crate.{Crate}
+use Rattle.device.specs.declared.state.Rest.{Rest}
+use Rattle.device.specs.Answer.{isDone}
 use Rattle.loader.specs.Memory.{isWhole}
 use Rattle.registers.specs.Calls.{Call, tick, write, tag, download, called, downloadAnswer, machine0, step}
-use Rattle.registers.specs.Map.{decodeOf, kept}
-use Rattle.registers.specs.State.{Machine, memory0, powerUp, withGroups, withMemory, withRest, withState}
-use Rattle.registers.specs.Tag.{commandOf, commanded, eventsOn, notedIn, rightKey, tagOf}
-use Rattle.registers.specs.Tick.{badLevels, tickOf}
-use Rattle.registers.specs.Write.{onCommon, onCounters, onGates, resetBy, writeAt}
+use Rattle.device.specs.Map.{decodeOf, kept}
+use Rattle.device.specs.State.{Machine, memory0, powerUp, withGroups, withMemory, withRest, withState}
+use Rattle.tagging.specs.Tag.{commandOf, commanded, eventsOn, notedIn, rightKey, tagOf}
+use Rattle.ticking.specs.Tick.{badLevels, tickOf}
+use Rattle.writing.specs.Write.{onCommon, onCounters, onGates, resetBy, writeAt}
 use Rattle.registers.proofs.Whole.{length-replaced}
 use Rattle.sheet.specs.Lines.{Holds, Lines, join, linesAt, linesIn, linesOf}
 use Rattle.sheet.specs.OwnPart.{downloaded, isOwnWord, own, ownAt, tagged, ticked}

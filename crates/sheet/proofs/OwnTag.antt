@@ -10,12 +10,12 @@ use lib.Pow.{low}
 use Rattle.words.specs.Word.{bit, maskedBits}
 use Rattle.words.proofs.Fields.{bit-low}
 use Rattle.words.proofs.Packing.{pack-lt}
-use Rattle.words.proofs.Tests.{pick-elim}
+use Rattle.bools.proofs.Tests.{pick-elim}
 use Rattle.lists.specs.Table.{each}
 use Rattle.lists.proofs.Tables.{tabulate-ext}
 use Rattle.gates.specs.declared.gate.Gate.{Gate}
 use Rattle.gates.specs.Gate.{eachGate, gate0}
-use Rattle.registers.specs.Tag.{commandOf, keyOf}
+use Rattle.tagging.specs.Tag.{commandOf, keyOf}
 use Rattle.sheet.specs.Lines.{Lines}
 use Rattle.sheet.specs.OwnPart.{ownTag}
 

@@ -8,10 +8,10 @@ use mathlib.Core.Path.{_≡_, refl, sym, ap, _∙_}
 use borrow.Author.Tests.{eqb-true, ltb-true, ltb-false}
 use lib.Dec.{eqb, ltb, lit<}
 use lib.ListN.{length, getD, set, List·getD-eq-default}
-use Rattle.words.specs.Pick.{pick}
+use Rattle.bools.specs.Pick.{pick}
 use Rattle.words.specs.Word.{bit, maskedBits}
 use Rattle.words.proofs.Packing.{bit-masked, bit-pack, masked-zero, nibble-zero}
-use Rattle.words.proofs.Tests.{cases, pick-same}
+use Rattle.bools.proofs.Tests.{cases, pick-same}
 use Rattle.lists.specs.Table.{tabulate, each}
 use Rattle.lists.proofs.Tables.{getD-past, getD-set, getD-tabulate, set-tabulate, tabulate-ext}
 use Rattle.counters.specs.declared.counter.Counter.{Counter}
@@ -23,7 +23,7 @@ use Rattle.loader.specs.Loader.{groupAt}
 use Rattle.loader.specs.Memory.{placeOf, wordAt}
 use Rattle.gates.proofs.Gates.{gate-bit, gate-bit-past}
 use Rattle.registers.specs.Calls.{machine0}
-use Rattle.registers.specs.State.{Machine, memory0, powerUp}
+use Rattle.device.specs.State.{Machine, memory0, powerUp}
 use Rattle.sheet.specs.Lines.{Lines}
 use Rattle.sheet.specs.Sheet.{Sheet, sheet0, sheetOf}
 

@@ -10,26 +10,26 @@ use lib.Dec.{eqb}
 use lib.ListN.{length}
 use Rattle.words.specs.Word.{bit, bitOf}
 use Rattle.words.proofs.Packing.{bit-pack, bit-zero}
-use Rattle.words.proofs.Tests.{both, cases}
+use Rattle.bools.proofs.Tests.{both, cases}
 use Rattle.lists.proofs.Tables.{getD-each, getD-tabulate}
 use Rattle.lines.specs.Lines.{inputRise, riseOf, risesOf}
 use Rattle.lines.specs.Raw.{countRises, rawAt, rawStep}
 use Rattle.loader.specs.Memory.{isWhole}
-use Rattle.registers.specs.declared.answer.Answer.the-variants.{Done}
-use Rattle.registers.specs.declared.map.Register.{Register}
-use Rattle.registers.specs.declared.map.Register.the-variants.{Nothing, Readout, Other, Control, Mode, Timeout, Key, Enable, Reload, Prepare, Recover, Input, Group, Word}
-use Rattle.registers.specs.declared.map.Setting.{Setting}
-use Rattle.registers.specs.declared.map.Setting.the-variants.{Mask, WatchdogTimeout, WatchdogReset, Selection}
-use Rattle.registers.specs.declared.map.Status.the-variants.{Raw}
-use Rattle.registers.specs.declared.state.Crate.{Crate}
-use Rattle.registers.specs.Answer.{isDone}
+use Rattle.device.specs.declared.answer.Answer.the-variants.{Done}
+use Rattle.device.specs.declared.map.Register.{Register}
+use Rattle.device.specs.declared.map.Register.the-variants.{Nothing, Readout, Other, Control, Mode, Timeout, Key, Enable, Reload, Prepare, Recover, Input, Group, Word}
+use Rattle.device.specs.declared.map.Setting.{Setting}
+use Rattle.device.specs.declared.map.Setting.the-variants.{Mask, WatchdogTimeout, WatchdogReset, Selection}
+use Rattle.device.specs.declared.map.Status.the-variants.{Raw}
+use Rattle.device.specs.declared.state.Crate.{Crate}
+use Rattle.device.specs.Answer.{isDone}
 use Rattle.registers.specs.Calls.{Call, tick, write, tag, download, after, called, downloadAnswer, from, machine0, step}
-use Rattle.registers.specs.Map.{counterMap, decodeOf}
-use Rattle.registers.specs.Read.{lowFirst, readBy, readOf, statusWord, wordIn}
-use Rattle.registers.specs.State.{Machine, powerUp, withState}
-use Rattle.registers.specs.Tag.{commandOf, commanded, eventsOn, notedIn, rightKey, tagOf}
-use Rattle.registers.specs.Tick.{badLevels, restTick, tickOf}
-use Rattle.registers.specs.Write.{restWrite, writeAt}
+use Rattle.device.specs.Map.{counterMap, decodeOf}
+use Rattle.reading.specs.Read.{lowFirst, readBy, readOf, statusWord, wordIn}
+use Rattle.device.specs.State.{Machine, powerUp, withState}
+use Rattle.tagging.specs.Tag.{commandOf, commanded, eventsOn, notedIn, rightKey, tagOf}
+use Rattle.ticking.specs.Tick.{badLevels, restTick, tickOf}
+use Rattle.writing.specs.Write.{restWrite, writeAt}
 use Rattle.registers.proofs.Whole.{full, step-called}
 use Rattle.sheet.specs.Raw.{levelsOf, rawCount, risesIn}
 use Rattle.sheet.proofs.Isolation.{sized-from}

@@ -10,10 +10,10 @@ use lib.Dec.{eqb, leb, ltb, lit<}
 use lib.IntN.{pos}
 use lib.ListN.{getD, length, length-set, set}
 use lib.Pow.{pow-pos}
-use Rattle.words.specs.Pick.{pick}
+use Rattle.bools.specs.Pick.{pick}
 use Rattle.words.specs.Word.{bit, fieldOf}
 use Rattle.words.proofs.Fields.{bit-low}
-use Rattle.words.proofs.Tests.{both, cases, pick-elim}
+use Rattle.bools.proofs.Tests.{both, cases, pick-elim}
 use Rattle.lists.specs.Table.{each}
 use Rattle.lists.proofs.All.{all-each, all-set, all-tabulate}
 use Rattle.lists.proofs.Splice.{getD-before, getD-behind, getD-inside}
@@ -28,21 +28,21 @@ use Rattle.lines.specs.Raw.{countRises, rawAt}
 use Rattle.loader.specs.Loader.{request0}
 use Rattle.loader.specs.Memory.{loaded, memoryWords, replaced, wordAt}
 use Rattle.watchdogs.specs.Watchdog.{resetIn, resetWatchdogs, stepWatchdogs, watchdog0, watchdogAt, watchdogTop, withReset}
-use Rattle.registers.specs.declared.map.Register.{Register}
-use Rattle.registers.specs.declared.map.Register.the-variants.{Nothing, Readout, Other, Control, Mode, Timeout, Key, Enable, Reload, Prepare, Recover, Input, Group, Word}
-use Rattle.registers.specs.declared.map.Setting.{Setting}
-use Rattle.registers.specs.declared.map.Setting.the-variants.{Mask, WatchdogTimeout, WatchdogReset, Selection}
-use Rattle.registers.specs.declared.state.Common.{Common}
-use Rattle.registers.specs.declared.state.Crate.{Crate}
-use Rattle.registers.specs.declared.state.Rest.{Rest}
-use Rattle.registers.specs.Answer.{isDone}
+use Rattle.device.specs.declared.map.Register.{Register}
+use Rattle.device.specs.declared.map.Register.the-variants.{Nothing, Readout, Other, Control, Mode, Timeout, Key, Enable, Reload, Prepare, Recover, Input, Group, Word}
+use Rattle.device.specs.declared.map.Setting.{Setting}
+use Rattle.device.specs.declared.map.Setting.the-variants.{Mask, WatchdogTimeout, WatchdogReset, Selection}
+use Rattle.device.specs.declared.state.Common.{Common}
+use Rattle.device.specs.declared.state.Crate.{Crate}
+use Rattle.device.specs.declared.state.Rest.{Rest}
+use Rattle.device.specs.Answer.{isDone}
 use Rattle.loader.specs.Memory.{isWhole}
 use Rattle.registers.specs.Calls.{Call, tick, write, tag, download, after, called, downloadAnswer, from, machine0, step}
-use Rattle.registers.specs.Map.{decodeOf, kept, usedBits}
-use Rattle.registers.specs.State.{Machine, common0, memory0, powerUp, withGroups, withMemory, withRegisters, withRest, withState}
-use Rattle.registers.specs.Tag.{commandOf, commanded, eventsOn, notedIn, rightKey, tagOf, tagRequest}
-use Rattle.registers.specs.Tick.{badLevels, commonTick, restTick, tickOf}
-use Rattle.registers.specs.Write.{controlWrite, datasetIn, enableWrite, keyWrite, onCommon, onCounters, onGates, reloadAnswer, reloadWrite, requestAnswer, requested, resetBy, restWrite, triggers, withReload, writeAt}
+use Rattle.device.specs.Map.{decodeOf, kept, usedBits}
+use Rattle.device.specs.State.{Machine, common0, memory0, powerUp, withGroups, withMemory, withRegisters, withRest, withState}
+use Rattle.tagging.specs.Tag.{commandOf, commanded, eventsOn, notedIn, rightKey, tagOf, tagRequest}
+use Rattle.ticking.specs.Tick.{badLevels, commonTick, restTick, tickOf}
+use Rattle.writing.specs.Write.{controlWrite, datasetIn, enableWrite, keyWrite, onCommon, onCounters, onGates, reloadAnswer, reloadWrite, requestAnswer, requested, resetBy, restWrite, triggers, withReload, writeAt}
 use Rattle.registers.proofs.Whole.{accepted, length-replaced}
 use Rattle.sheet.specs.Reachable.{CommonInRange, CounterInRange, GateInRange, OfWords, Reached, RequestInRange, RestInRange}
 use Rattle.sheet.proofs.InRange.{cleared-in, counter0-in, gate-in, input-in, load-all, load-in, loader-next, loader-request, phases-in, pushed-in, queue-in, request0-in, taken, tick-in, watchdog-in}

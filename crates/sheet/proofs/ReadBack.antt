@@ -10,12 +10,12 @@ use lib.Dec.{eqb, ltb}
 use lib.ListN.{getD, length, length-set, List·getD-eq-default, set}
 use lib.Pow.{pow-mono, pow-pos}
 use lib.Seq.{getD-set-same, getD-set-other}
-use Rattle.words.specs.Pick.{pick}
+use Rattle.bools.specs.Pick.{pick}
 use Rattle.words.specs.Word.{bit, fields, pack}
 use Rattle.words.proofs.Fields.{bit-low}
 use Rattle.words.proofs.Gather.{pack-ext, pack-is}
 use Rattle.words.proofs.Packing.{bit-past}
-use Rattle.words.proofs.Tests.{both, cases, pick-elim}
+use Rattle.bools.proofs.Tests.{both, cases, pick-elim}
 use Rattle.lists.specs.Table.{each, tabulate}
 use Rattle.lists.proofs.Tables.{getD-each, length-each, length-tabulate}
 use Rattle.counters.specs.declared.counter.Counter.{Counter}
@@ -27,27 +27,27 @@ use Rattle.counters.specs.Counter.{clearCounters, cleared, counter0, counterAt,
 use Rattle.lines.specs.Raw.{rawAt}
 use Rattle.loader.specs.Memory.{isWhole, wordAt}
 use Rattle.watchdogs.specs.Watchdog.{errorOf, resetIn, resetOf, resetWatchdogs, stepWatchdogs, watchdog0, watchdogAt, watchdogWord, withReset}
-use Rattle.registers.specs.declared.answer.Answer.the-variants.{Done}
-use Rattle.registers.specs.declared.map.Register.{Register}
-use Rattle.registers.specs.declared.map.Register.the-variants.{Nothing, Readout, Other, Control, Mode, Timeout, Key, Enable, Reload, Prepare, Recover, Input, Group, Word}
-use Rattle.registers.specs.declared.map.Setting.{Setting}
-use Rattle.registers.specs.declared.map.Setting.the-variants.{Mask, WatchdogTimeout, WatchdogReset, Selection}
-use Rattle.registers.specs.declared.map.Status.{Status}
-use Rattle.registers.specs.declared.map.Status.the-variants.{Module, Negative, Positive, GateErrors, WatchdogErrors, GateInputs, GateOutputs, Outputs}
-use Rattle.registers.specs.declared.map.Status.the-variants.{GateStates, TagLow, TagHigh, Code, LoaderState, LoaderCounter, Count, Raw, Threshold}
-use Rattle.registers.specs.declared.state.Common.{Common}
-use Rattle.registers.specs.declared.state.Crate.{Crate}
-use Rattle.registers.specs.declared.state.Rest.{Rest}
-use Rattle.registers.specs.Answer.{isDone}
+use Rattle.device.specs.declared.answer.Answer.the-variants.{Done}
+use Rattle.device.specs.declared.map.Register.{Register}
+use Rattle.device.specs.declared.map.Register.the-variants.{Nothing, Readout, Other, Control, Mode, Timeout, Key, Enable, Reload, Prepare, Recover, Input, Group, Word}
+use Rattle.device.specs.declared.map.Setting.{Setting}
+use Rattle.device.specs.declared.map.Setting.the-variants.{Mask, WatchdogTimeout, WatchdogReset, Selection}
+use Rattle.device.specs.declared.map.Status.{Status}
+use Rattle.device.specs.declared.map.Status.the-variants.{Module, Negative, Positive, GateErrors, WatchdogErrors, GateInputs, GateOutputs, Outputs}
+use Rattle.device.specs.declared.map.Status.the-variants.{GateStates, TagLow, TagHigh, Code, LoaderState, LoaderCounter, Count, Raw, Threshold}
+use Rattle.device.specs.declared.state.Common.{Common}
+use Rattle.device.specs.declared.state.Crate.{Crate}
+use Rattle.device.specs.declared.state.Rest.{Rest}
+use Rattle.device.specs.Answer.{isDone}
 use Rattle.registers.specs.Calls.{Call, tick, write, tag, download, after, answer, called, callAnswer, downloadAnswer, from, machine0, step}
-use Rattle.registers.specs.Interlock.{interlocks, lowGates, signals, trips, tripsBy}
-use Rattle.registers.specs.Map.{backplaneMap, below, controlMap, counterMap, decodeOf, eventMap, kept, outputBlock, statusMap}
-use Rattle.registers.specs.Read.{answerFor, halfOf, lowFirst, readBy, readOf, settingWord, statusWord, wordIn}
-use Rattle.registers.specs.State.{Machine, powerUp, withCounters, withGates, withRest, withState}
-use Rattle.registers.specs.Tag.{commandOf, commanded, eventsOn, notedIn, rightKey, tagOf}
-use Rattle.registers.specs.Tick.{badLevels, restTick, tickOf}
-use Rattle.registers.specs.Write.{controlWrite, enableWrite, keyWrite, onCommon, onGates, reloadAnswer, reloadWrite, requested, resetBy, restWrite}
-use Rattle.registers.specs.Write.{triggers, withReload, writeAnswer, writeAt}
+use Rattle.interlocks.specs.Interlock.{interlocks, lowGates, signals, trips, tripsBy}
+use Rattle.device.specs.Map.{backplaneMap, below, controlMap, counterMap, decodeOf, eventMap, kept, outputBlock, statusMap}
+use Rattle.reading.specs.Read.{answerFor, halfOf, lowFirst, readBy, readOf, settingWord, statusWord, wordIn}
+use Rattle.device.specs.State.{Machine, powerUp, withCounters, withGates, withRest, withState}
+use Rattle.tagging.specs.Tag.{commandOf, commanded, eventsOn, notedIn, rightKey, tagOf}
+use Rattle.ticking.specs.Tick.{badLevels, restTick, tickOf}
+use Rattle.writing.specs.Write.{controlWrite, enableWrite, keyWrite, onCommon, onGates, reloadAnswer, reloadWrite, requested, resetBy, restWrite}
+use Rattle.writing.specs.Write.{triggers, withReload, writeAnswer, writeAt}
 use Rattle.registers.proofs.Whole.{full, step-called}
 use Rattle.sheet.specs.Follows.{follows}
 use Rattle.sheet.proofs.Isolation.{sized-from}

@@ -8,14 +8,14 @@ use mathlib.Core.Path.{_≡_, sym, ap, subst, _∙_}
 use lib.ListN.{length}
 use Rattle.loader.specs.declared.loader.Request.{Request}
 use Rattle.loader.specs.Memory.{isWhole}
-use Rattle.registers.specs.declared.answer.Answer.the-variants.{Done}
-use Rattle.registers.specs.declared.answer.Outcome.{Outcome}
-use Rattle.registers.specs.declared.answer.Read.{Read}
-use Rattle.registers.specs.Answer.{isDone}
+use Rattle.device.specs.declared.answer.Answer.the-variants.{Done}
+use Rattle.device.specs.declared.answer.Outcome.{Outcome}
+use Rattle.device.specs.declared.answer.Read.{Read}
+use Rattle.device.specs.Answer.{isDone}
 use Rattle.registers.specs.Calls.{Call, write, acceptedTicks, after, answer, from, leftByRefusal, machine0, powered, poweredMemory, refusals, step}
-use Rattle.registers.specs.Map.{decodeOf, kept}
-use Rattle.registers.specs.Read.{lowFirst, readBy, readOf}
-use Rattle.registers.specs.State.{Machine, machine}
+use Rattle.device.specs.Map.{decodeOf, kept}
+use Rattle.reading.specs.Read.{lowFirst, readBy, readOf}
+use Rattle.device.specs.State.{Machine, machine}
 use Rattle.registers.proofs.Lists.{from-append}
 use Rattle.trace.specs.declared.Progress.{Progress}
 use Rattle.trace.specs.Passed.{callsIn, passedIn}

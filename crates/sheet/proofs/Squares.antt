@@ -8,10 +8,10 @@ use mathlib.Core.Path.{_≡_, refl, sym, ap, _∙_}
 use borrow.Author.Tests.{eqb-true, eqb-false, eq-eqb, ne-eqb, ltb-true, ltb-false}
 use lib.Dec.{eqb, ltb}
 use lib.ListN.{length, getD, set}
-use Rattle.words.specs.Pick.{pick}
+use Rattle.bools.specs.Pick.{pick}
 use Rattle.words.specs.Word.{maskedBits}
 use Rattle.words.proofs.Fields.{nibble-low}
-use Rattle.words.proofs.Tests.{agree, cases, pick-ap, pick-same}
+use Rattle.bools.proofs.Tests.{agree, cases, pick-ap, pick-same}
 use Rattle.lists.proofs.Splice.{getD-before, getD-behind, getD-inside}
 use Rattle.lists.proofs.Tables.{getD-each, getD-set, getD-tabulate, length-each, set-tabulate, tabulate-ext}
 use Rattle.counters.specs.declared.counter.Counter.{Counter}
@@ -21,16 +21,16 @@ use Rattle.gates.specs.Gate.{eachGate, gate0, gateStep, outputsOf, withMode, wi
 use Rattle.lines.specs.Lines.{risesOf}
 use Rattle.loader.specs.Loader.{groupAt, takes, loadInto}
 use Rattle.loader.specs.Memory.{loaded, placeOf, replaced, wordAt}
-use Rattle.registers.specs.declared.map.Register.{Register}
-use Rattle.registers.specs.declared.map.Register.the-variants.{Nothing, Readout, Other, Control, Mode, Timeout, Key, Enable, Reload, Prepare, Recover, Input, Group, Word}
-use Rattle.registers.specs.declared.state.Rest.{Rest}
-use Rattle.registers.specs.Answer.{isDone}
+use Rattle.device.specs.declared.map.Register.{Register}
+use Rattle.device.specs.declared.map.Register.the-variants.{Nothing, Readout, Other, Control, Mode, Timeout, Key, Enable, Reload, Prepare, Recover, Input, Group, Word}
+use Rattle.device.specs.declared.state.Rest.{Rest}
+use Rattle.device.specs.Answer.{isDone}
 use Rattle.registers.specs.Calls.{Call, tick, write, tag, download, called, downloadAnswer, step}
-use Rattle.registers.specs.Map.{decodeOf, kept}
-use Rattle.registers.specs.State.{Machine, withRest, withState}
-use Rattle.registers.specs.Tag.{commandOf, commanded, eventsOn, rightKey, tagOf}
-use Rattle.registers.specs.Tick.{badLevels, tickOf}
-use Rattle.registers.specs.Write.{controlWrite, resetBy, writeAt}
+use Rattle.device.specs.Map.{decodeOf, kept}
+use Rattle.device.specs.State.{Machine, withRest, withState}
+use Rattle.tagging.specs.Tag.{commandOf, commanded, eventsOn, rightKey, tagOf}
+use Rattle.ticking.specs.Tick.{badLevels, tickOf}
+use Rattle.writing.specs.Write.{controlWrite, resetBy, writeAt}
 use Rattle.registers.proofs.Whole.{accepted, step-called}
 use Rattle.sheet.specs.Lines.{Lines}
 use Rattle.sheet.specs.OwnPart.{fourOf, isOwnWord, own, ownAt, ownTag, ownWord}

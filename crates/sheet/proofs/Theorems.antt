@@ -8,12 +8,12 @@ use mathlib.Core.Path.{_≡_, sym, ap, _∙_}
 use lib.ListN.{length}
 use Rattle.loader.specs.declared.loader.Request.{Request}
 use Rattle.loader.specs.Memory.{isWhole}
-use Rattle.registers.specs.declared.answer.Answer.the-variants.{Done}
-use Rattle.registers.specs.Answer.{isDone}
+use Rattle.device.specs.declared.answer.Answer.the-variants.{Done}
+use Rattle.device.specs.Answer.{isDone}
 use Rattle.registers.specs.Calls.{Call, write, acceptedTicks, after, answer, from, leftByRefusal, refusals, step}
-use Rattle.registers.specs.Map.{decodeOf, kept}
-use Rattle.registers.specs.Read.{lowFirst, readBy, readOf}
-use Rattle.registers.specs.State.{Machine}
+use Rattle.device.specs.Map.{decodeOf, kept}
+use Rattle.reading.specs.Read.{lowFirst, readBy, readOf}
+use Rattle.device.specs.State.{Machine}
 use Rattle.registers.proofs.Refused as refusing
 use Rattle.trace.specs.Passed.{callsIn, passedIn}
 use Rattle.trace.specs.Run.{machineOf, onceOf, runOf}

@@ -2,13 +2,13 @@
 use Prim.Native.Nat.{ℕ}
 use mathlib.Core.Bool.{Bool, true, false}
 use lib.Dec.{eqb}
-use Rattle.registers.specs.declared.map.Register.{Register}
-use Rattle.registers.specs.declared.map.Register.the-variants.{Nothing, Readout, Other, Control, Mode, Timeout, Key, Enable, Reload, Prepare, Recover, Input, Group, Word}
-use Rattle.registers.specs.declared.map.Setting.{Setting}
-use Rattle.registers.specs.declared.map.Setting.the-variants.{Mask, WatchdogTimeout, WatchdogReset, Selection}
-use Rattle.registers.specs.declared.map.Status.{Status}
-use Rattle.registers.specs.declared.map.Status.the-variants.{Module, Negative, Positive, GateErrors, WatchdogErrors, GateInputs, GateOutputs, Outputs}
-use Rattle.registers.specs.declared.map.Status.the-variants.{GateStates, TagLow, TagHigh, Code, LoaderState, LoaderCounter, Count, Raw, Threshold}
+use Rattle.device.specs.declared.map.Register.{Register}
+use Rattle.device.specs.declared.map.Register.the-variants.{Nothing, Readout, Other, Control, Mode, Timeout, Key, Enable, Reload, Prepare, Recover, Input, Group, Word}
+use Rattle.device.specs.declared.map.Setting.{Setting}
+use Rattle.device.specs.declared.map.Setting.the-variants.{Mask, WatchdogTimeout, WatchdogReset, Selection}
+use Rattle.device.specs.declared.map.Status.{Status}
+use Rattle.device.specs.declared.map.Status.the-variants.{Module, Negative, Positive, GateErrors, WatchdogErrors, GateInputs, GateOutputs, Outputs}
+use Rattle.device.specs.declared.map.Status.the-variants.{GateStates, TagLow, TagHigh, Code, LoaderState, LoaderCounter, Count, Raw, Threshold}
 
 -- 0x0801: "While RESET (bit 0) is set all counts are 0", and "overflow bits and interlocks follow the state as it is, also right after a
 -- write"; no raw count follows

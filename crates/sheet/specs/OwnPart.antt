@@ -7,17 +7,17 @@ use mathlib.Core.Option.{Option, none, some}
 use mathlib.Core.Path.{_≡_}
 use lib.Dec.{eqb}
 use lib.ListN.{getD, length}
-use Rattle.words.specs.Pick.{pick}
+use Rattle.bools.specs.Pick.{pick}
 use Rattle.words.specs.Word.{maskedBits, nibble}
 use Rattle.lists.specs.Table.{tabulate}
 use Rattle.lines.specs.Lines.{gateCount, inputCount}
 use Rattle.loader.specs.Memory.{datasetWords}
-use Rattle.registers.specs.declared.map.Register.{Register}
-use Rattle.registers.specs.declared.map.Register.the-variants.{Nothing, Readout, Other, Control, Mode, Timeout, Key, Enable, Reload, Prepare, Recover, Input, Group, Word}
+use Rattle.device.specs.declared.map.Register.{Register}
+use Rattle.device.specs.declared.map.Register.the-variants.{Nothing, Readout, Other, Control, Mode, Timeout, Key, Enable, Reload, Prepare, Recover, Input, Group, Word}
 use Rattle.registers.specs.Calls.{Call, tick, write, tag, download}
-use Rattle.registers.specs.Map.{decodeOf}
-use Rattle.registers.specs.Tag.{commandOf}
-use Rattle.registers.specs.Tick.{badLevels}
+use Rattle.device.specs.Map.{decodeOf}
+use Rattle.tagging.specs.Tag.{commandOf}
+use Rattle.ticking.specs.Tick.{badLevels}
 use Rattle.sheet.specs.Lines.{Lines, ownLines}
 
 -- the own part of one call

@@ -2,10 +2,10 @@
 use Prim.Native.Nat.{ℕ, _+_, _%_, _^_}
 use mathlib.Core.Bool.{Bool, false, not, _&&_}
 use mathlib.Core.List.{List, [], _∷_}
-use Rattle.words.specs.Pick.{pick}
+use Rattle.bools.specs.Pick.{pick}
 use Rattle.words.specs.Word.{bit, bitOf}
 use Rattle.registers.specs.Calls.{Call, tick, write, tag, download}
-use Rattle.registers.specs.Tick.{badLevels}
+use Rattle.ticking.specs.Tick.{badLevels}
 
 -- an input's levels in the accepted ticks. Of the rest of a list only that is looked at whether a tick is refused: no write, no tag, no
 -- download, no level of another line that exists

@@ -17,14 +17,14 @@ use Rattle.lines.specs.Raw.{rawAt}
 use Rattle.loader.specs.Loader.{request0}
 use Rattle.loader.specs.Memory.{memoryWords, wordAt}
 use Rattle.watchdogs.specs.Watchdog.{watchdogAt, watchdogTop}
-use Rattle.registers.specs.declared.map.Register.the-variants.{Control, Enable, Key, Other, Reload}
-use Rattle.registers.specs.declared.map.Setting.the-variants.{Mask, Selection, WatchdogTimeout}
-use Rattle.registers.specs.declared.state.Common.{Common}
-use Rattle.registers.specs.declared.state.Events.{Events}
-use Rattle.registers.specs.declared.state.Rest.{Rest}
+use Rattle.device.specs.declared.map.Register.the-variants.{Control, Enable, Key, Other, Reload}
+use Rattle.device.specs.declared.map.Setting.the-variants.{Mask, Selection, WatchdogTimeout}
+use Rattle.device.specs.declared.state.Common.{Common}
+use Rattle.device.specs.declared.state.Events.{Events}
+use Rattle.device.specs.declared.state.Rest.{Rest}
 use Rattle.registers.specs.Calls.{Call, tick, write, tag, download}
-use Rattle.registers.specs.Map.{usedBits}
-use Rattle.registers.specs.State.{Machine}
+use Rattle.device.specs.Map.{usedBits}
+use Rattle.device.specs.State.{Machine}
 
 -- a count and thresholds of 32 bits in two's complement, an input register of 16
 pub record CounterInRange (c : Counter) : Type 0 where

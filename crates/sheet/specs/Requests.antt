@@ -6,17 +6,17 @@ use mathlib.Core.Option.{Option, none, some}
 use mathlib.Core.Path.{_≡_}
 use lib.Dec.{eqb}
 use lib.ListN.{getD}
-use Rattle.words.specs.Pick.{pick}
+use Rattle.bools.specs.Pick.{pick}
 use Rattle.loader.specs.declared.loader.Loader.{Loader}
 use Rattle.loader.specs.declared.loader.Request.{Request}
 use Rattle.loader.specs.Loader.{request0, requestFor}
-use Rattle.registers.specs.declared.state.Common.{Common}
-use Rattle.registers.specs.Answer.{isDone}
+use Rattle.device.specs.declared.state.Common.{Common}
+use Rattle.device.specs.Answer.{isDone}
 use Rattle.registers.specs.Calls.{Call, tick, write, tag, download, step}
-use Rattle.registers.specs.State.{Machine}
-use Rattle.registers.specs.Tag.{commandOf, eventsOn, rightKey}
-use Rattle.registers.specs.Tick.{badLevels}
-use Rattle.registers.specs.Write.{datasetIn, groupIn, requestAnswer, triggers}
+use Rattle.device.specs.State.{Machine}
+use Rattle.tagging.specs.Tag.{commandOf, eventsOn, rightKey}
+use Rattle.ticking.specs.Tick.{badLevels}
+use Rattle.writing.specs.Write.{datasetIn, groupIn, requestAnswer, triggers}
 
 -- the request that a word asks for, where it is taken
 abbrev pub madeBy : Common → ℕ → Bool → Option Request

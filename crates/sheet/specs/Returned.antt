@@ -5,11 +5,11 @@ use mathlib.Core.Bool.{true}
 use mathlib.Core.List.{List, [], _∷_, _++_}
 use mathlib.Core.Path.{_≡_}
 use Rattle.loader.specs.Memory.{isWhole}
-use Rattle.registers.specs.declared.answer.Outcome.{Outcome}
-use Rattle.registers.specs.declared.answer.Read.{Read}
+use Rattle.device.specs.declared.answer.Outcome.{Outcome}
+use Rattle.device.specs.declared.answer.Read.{Read}
 use Rattle.registers.specs.Calls.{Call, from, machine0, outcomeOf, powered, poweredMemory, step}
-use Rattle.registers.specs.Read.{readOf}
-use Rattle.registers.specs.State.{Machine, machine}
+use Rattle.reading.specs.Read.{readOf}
+use Rattle.device.specs.State.{Machine, machine}
 use Rattle.trace.specs.declared.Progress.{Progress}
 use Rattle.trace.specs.Passed.{callsIn, passedIn}
 use Rattle.trace.specs.Run.{run, runOf}

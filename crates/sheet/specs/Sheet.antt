@@ -5,7 +5,7 @@ use mathlib.Core.Bool.{_&&_}
 use mathlib.Core.List.{List, [], _∷_}
 use lib.Dec.{eqb}
 use lib.ListN.{getD, set}
-use Rattle.words.specs.Pick.{pick}
+use Rattle.bools.specs.Pick.{pick}
 use Rattle.lists.specs.Table.{tabulate}
 use Rattle.counters.specs.declared.counter.Counter.{Counter}
 use Rattle.gates.specs.declared.gate.Gate.{Gate}
@@ -16,15 +16,15 @@ use Rattle.gates.specs.Gate.{withMode, withPrepare, withPreparePulse, withRecov
 use Rattle.lines.specs.Lines.{gateCount, risesOf}
 use Rattle.loader.specs.Loader.{takes}
 use Rattle.loader.specs.Memory.{loaded}
-use Rattle.registers.specs.declared.map.Register.the-variants.{Input, Timeout, Word}
-use Rattle.registers.specs.declared.state.Common.{Common}
-use Rattle.registers.specs.Answer.{isDone}
+use Rattle.device.specs.declared.map.Register.the-variants.{Input, Timeout, Word}
+use Rattle.device.specs.declared.state.Common.{Common}
+use Rattle.device.specs.Answer.{isDone}
 use Rattle.registers.specs.Calls.{downloadAnswer}
-use Rattle.registers.specs.Map.{kept}
-use Rattle.registers.specs.State.{common0}
-use Rattle.registers.specs.Tag.{commandOf, eventsOn, rightKey, tagRequest}
-use Rattle.registers.specs.Tick.{commonTick}
-use Rattle.registers.specs.Write.{controlWrite, enableWrite, keyWrite, reloadWrite}
+use Rattle.device.specs.Map.{kept}
+use Rattle.device.specs.State.{common0}
+use Rattle.tagging.specs.Tag.{commandOf, eventsOn, rightKey, tagRequest}
+use Rattle.ticking.specs.Tick.{commonTick}
+use Rattle.writing.specs.Write.{controlWrite, enableWrite, keyWrite, reloadWrite}
 use Rattle.sheet.specs.OwnPart.{Part, ticked, patched, stored, controlled, keyed, enabled, reloaded, timed, grouped, moded, prepared, recovered, tagged, downloaded}
 use Rattle.sheet.specs.Shows.{Shown, shown}
 

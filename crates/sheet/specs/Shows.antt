@@ -5,8 +5,8 @@ use lib.IntN.{ℤ}
 use Rattle.words.specs.Word.{bit}
 use Rattle.counters.specs.declared.counter.Counter.{Counter}
 use Rattle.counters.specs.Counter.{counterAt}
-use Rattle.registers.specs.Read.{readOf}
-use Rattle.registers.specs.State.{Machine}
+use Rattle.reading.specs.Read.{readOf}
+use Rattle.device.specs.State.{Machine}
 
 -- the values that demand 3 compares: count, thresholds, both overflow bits
 pub record Shown : Type 0 where

@@ -7,16 +7,16 @@ use mathlib.Core.List.{List}
 use mathlib.Core.Path.{_≡_, refl, sym, ap, subst, _∙_}
 use lib.Dec.{ltb}
 use lib.ListN.{length}
-use Rattle.words.proofs.Tests.{cases, pick-elim}
+use Rattle.bools.proofs.Tests.{cases, pick-elim}
 use Rattle.loader.specs.Memory.{isWhole}
 use Rattle.registers.specs.Calls.{Call, tick, write, tag}
-use Rattle.registers.specs.State.{Machine}
-use Rattle.registers.specs.Tick.{badLevels}
-use Rattle.trace.specs.declared.Record.{Record}
-use Rattle.trace.specs.declared.Record.the-variants.{AtEnd, Malformed, Ticks, Write, Tag}
-use Rattle.trace.specs.declared.Stop.{Stop}
-use Rattle.trace.specs.declared.Stop.the-variants.{End, Spent}
-use Rattle.trace.specs.Records.{nextAt, recordAt}
+use Rattle.device.specs.State.{Machine}
+use Rattle.ticking.specs.Tick.{badLevels}
+use Rattle.records.specs.declared.Record.{Record}
+use Rattle.records.specs.declared.Record.the-variants.{AtEnd, Malformed, Ticks, Write, Tag}
+use Rattle.records.specs.declared.Stop.{Stop}
+use Rattle.records.specs.declared.Stop.the-variants.{End, Spent}
+use Rattle.records.specs.Records.{nextAt, recordAt}
 use Rattle.trace.specs.Run.{Run, begun, byRecord, callIn, onceOf, one, passes, repeated, reportOf, runFrom, runOf, stopsBy, ticksIn}
 use Rattle.trace.specs.Sound.{Sound}
 use Rattle.trace.proofs.Listed.{halted-stays, run-on}

@@ -6,10 +6,10 @@ use mathlib.Core.List.{List}
 use mathlib.Core.Path.{_≡_, refl, sym, ap, _∙_}
 use borrow.Author.Tests.{eq-eqb, ne-eqb}
 use lib.ListN.{length}
-use Rattle.registers.specs.declared.state.Crate.{Crate}
+use Rattle.device.specs.declared.state.Crate.{Crate}
 use Rattle.registers.specs.Calls.{Call, tick, called, from, step}
-use Rattle.registers.specs.State.{Machine, machine}
-use Rattle.registers.specs.Tick.{badLevels, tickOf}
+use Rattle.device.specs.State.{Machine, machine}
+use Rattle.ticking.specs.Tick.{badLevels, tickOf}
 use Rattle.leaps.specs.Leap.{Formed, leapOf, quiet, stretchOf, ticksOf}
 use Rattle.leaps.proofs.Theorems.{leap-is, stretch-le, stretch-quiet}
 use Rattle.trace.specs.Leaping.{SameEnd}

@@ -1,5 +1,4 @@
-pub mod Leaping
 pub mod Halts
+pub mod Leaping
 pub mod Listed
-pub mod Numbers
 pub mod Steps

@@ -9,19 +9,19 @@ use mathlib.Core.Path.{_≡_, refl, sym, ap, _∙_}
 use borrow.Author.Tests.{eqb-true}
 use lib.Dec.{ltb}
 use lib.ListN.{length}
-use Rattle.words.specs.Pick.{pick}
-use Rattle.words.proofs.Tests.{cases}
+use Rattle.bools.specs.Pick.{pick}
+use Rattle.bools.proofs.Tests.{cases}
 use Rattle.loader.specs.Memory.{isWhole}
 use Rattle.registers.specs.Calls.{Call, tick, write, tag, acceptedTicks, answer, callAnswer, from, isRefused, refusals}
-use Rattle.registers.specs.State.{Machine}
-use Rattle.registers.specs.Tick.{badLevels}
+use Rattle.device.specs.State.{Machine}
+use Rattle.ticking.specs.Tick.{badLevels}
 use Rattle.registers.proofs.Lists.{from-append, full-from, refusals-append, refusals-repeated, ticks-append, ticks-repeated}
-use Rattle.trace.specs.declared.Record.{Record}
-use Rattle.trace.specs.declared.Record.the-variants.{AtEnd, Malformed, Ticks, Write, Tag}
-use Rattle.trace.specs.declared.Stop.{Stop}
-use Rattle.trace.specs.declared.Stop.the-variants.{End, Spent, Memory}
+use Rattle.records.specs.declared.Record.{Record}
+use Rattle.records.specs.declared.Record.the-variants.{AtEnd, Malformed, Ticks, Write, Tag}
+use Rattle.records.specs.declared.Stop.{Stop}
+use Rattle.records.specs.declared.Stop.the-variants.{End, Spent, Memory}
 use Rattle.trace.specs.Passed.{callsIn, callsOf, passedFrom, passedIn}
-use Rattle.trace.specs.Records.{recordAt}
+use Rattle.records.specs.Records.{recordAt}
 use Rattle.trace.specs.Run.{Run, begun, byRecord, callIn, machineOf, onceOf, passes, repeated, runFrom, runOf, stopsBy, ticksIn}
 
 -- what `n` records with these calls make of a run

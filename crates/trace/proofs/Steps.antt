@@ -10,25 +10,21 @@ use borrow.Author.Tests.{eq-eqb, eqb-false, ltb-false, ne-eqb}
 use lib.Dec.{eqb, ltb, lit≤}
 use lib.ListN.{length}
 use Rattle.words.specs.Word.{bitOf}
-use Rattle.words.proofs.Tests.{cases, pick-elim}
+use Rattle.bools.proofs.Tests.{cases, pick-elim}
 use Rattle.lists.specs.Table.{tableFrom, tabulate}
 use Rattle.loader.specs.Memory.{isWhole}
-use Rattle.registers.specs.declared.answer.Outcome.{Outcome}
+use Rattle.device.specs.declared.answer.Outcome.{Outcome}
 use Rattle.registers.specs.Calls.{Call, tick, write, tag, called, from, outcomeOf, step}
-use Rattle.registers.specs.State.{Machine, machine}
-use Rattle.registers.specs.Tick.{badLevels}
-use Rattle.trace.specs.declared.Record.{Record}
-use Rattle.trace.specs.declared.Record.the-variants.{AtEnd, Malformed, Ticks, Write, Tag}
+use Rattle.device.specs.State.{Machine, machine}
+use Rattle.ticking.specs.Tick.{badLevels}
+use Rattle.records.specs.declared.Record.{Record}
+use Rattle.records.specs.declared.Record.the-variants.{AtEnd, Malformed, Ticks, Write, Tag}
 use Rattle.trace.specs.declared.Report.{Report}
-use Rattle.trace.specs.Records.{headerBytes, isKnown, lengthAt, nextAt, numberAt, payloadAt, payloadBytes, recordAt, repeatBytes, tagAt, ticksAt}
-use Rattle.trace.specs.declared.Stop.{Stop}
-use Rattle.trace.specs.declared.Stop.the-variants.{End, Spent}
+use Rattle.records.specs.Records.{headerBytes, isKnown, lengthAt, nextAt, numberAt, payloadAt, payloadBytes, recordAt, repeatBytes, tagAt, ticksAt}
+use Rattle.records.specs.declared.Stop.{Stop}
+use Rattle.records.specs.declared.Stop.the-variants.{End, Spent}
 use Rattle.trace.specs.Run.{Run, begun, byRecord, callIn, onceOf, one, passed, passes, repeated, runFrom, runOf, stopped, stopsBy, ticksIn}
 use Rattle.trace.specs.Sound.{Room, Sound}
-
--- before the end something is left
-pub some-left : (t : List ℕ) (at : ℕ) → at < length t → eqb (length t - at) 0 ≡ false
-some-left t at h = ne-eqb (length t - at) 0 (λ e. omega (arith, e))
 
 -- a refusal counts once at most
 pub once-at-most : (b : Bool) → bitOf b ≤ 1

@@ -4,10 +4,10 @@ use mathlib.Core.Bool.{false}
 use mathlib.Core.List.{List}
 use mathlib.Core.Path.{_≡_}
 use lib.ListN.{length}
-use Rattle.registers.specs.declared.state.Crate.{Crate}
+use Rattle.device.specs.declared.state.Crate.{Crate}
 use Rattle.registers.specs.Calls.{from, tick}
-use Rattle.registers.specs.State.{machine}
-use Rattle.registers.specs.Tick.{badLevels}
+use Rattle.device.specs.State.{machine}
+use Rattle.ticking.specs.Tick.{badLevels}
 use Rattle.trace.specs.Run.{repeated}
 
 -- k ticks from the one crate end where n do from the other, on every memory, unless they are refused

@@ -1,5 +1,4 @@
 pub mod Leaping
 pub mod Passed
-pub mod Records
 pub mod Run
 pub mod Sound

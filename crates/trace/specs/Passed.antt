@@ -2,14 +2,14 @@
 use Prim.Native.Nat.{ℕ, zero, suc, _+_}
 use mathlib.Core.List.{List, [], _∷_, _++_}
 use lib.ListN.{length}
-use Rattle.words.specs.Pick.{pick}
+use Rattle.bools.specs.Pick.{pick}
 use Rattle.loader.specs.Memory.{isWhole}
 use Rattle.registers.specs.Calls.{Call, tick, write, tag}
-use Rattle.registers.specs.State.{Machine}
-use Rattle.registers.specs.Tick.{badLevels}
-use Rattle.trace.specs.declared.Record.{Record}
-use Rattle.trace.specs.declared.Record.the-variants.{AtEnd, Malformed, Ticks, Write, Tag}
-use Rattle.trace.specs.Records.{recordAt}
+use Rattle.device.specs.State.{Machine}
+use Rattle.ticking.specs.Tick.{badLevels}
+use Rattle.records.specs.declared.Record.{Record}
+use Rattle.records.specs.declared.Record.the-variants.{AtEnd, Malformed, Ticks, Write, Tag}
+use Rattle.records.specs.Records.{recordAt}
 use Rattle.trace.specs.Run.{Run, begun, onceOf, one, repeated}
 
 -- the calls of a record: a repeat n is n ticks, a refused tick record one refused tick

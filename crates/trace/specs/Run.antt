@@ -4,31 +4,21 @@ use mathlib.Core.Bool.{Bool, true, false}
 use mathlib.Core.List.{List, [], _∷_}
 use lib.Dec.{ltb}
 use lib.ListN.{length}
-use Rattle.words.specs.Pick.{pick}
+use Rattle.bools.specs.Pick.{pick}
 use Rattle.words.specs.Word.{bitOf}
 use Rattle.lists.specs.Table.{tabulate}
-use Rattle.registers.specs.declared.state.Crate.{Crate}
+use Rattle.device.specs.declared.state.Crate.{Crate}
 use Rattle.loader.specs.Memory.{isWhole}
 use Rattle.registers.specs.Calls.{Call, tick, write, tag, from, isRefused}
-use Rattle.registers.specs.State.{Machine, machine}
-use Rattle.registers.specs.Tick.{badLevels}
+use Rattle.device.specs.State.{Machine, machine}
+use Rattle.ticking.specs.Tick.{badLevels}
 use Rattle.trace.specs.declared.Progress.{Progress}
-use Rattle.trace.specs.declared.Record.{Record}
-use Rattle.trace.specs.declared.Record.the-variants.{AtEnd, Malformed, Ticks, Write, Tag}
+use Rattle.records.specs.declared.Record.{Record}
+use Rattle.records.specs.declared.Record.the-variants.{AtEnd, Malformed, Ticks, Write, Tag}
 use Rattle.trace.specs.declared.Report.{Report}
-use Rattle.trace.specs.declared.Stop.{Stop}
-use Rattle.trace.specs.declared.Stop.the-variants.{End, Spent, Memory, UnknownTag, WrongLength, Cut, NoRepeat}
-use Rattle.trace.specs.Records.{nextAt, recordAt}
-
--- the table's number of each stop that is a refusal; END and SPENT have none
-abbrev pub stopNumber : Stop → ℕ
-stopNumber End = 0
-stopNumber Spent = 0
-stopNumber Memory = 1
-stopNumber UnknownTag = 7
-stopNumber WrongLength = 8
-stopNumber Cut = 9
-stopNumber NoRepeat = 10
+use Rattle.records.specs.declared.Stop.{Stop}
+use Rattle.records.specs.declared.Stop.the-variants.{End, Spent, Memory, UnknownTag, WrongLength, Cut, NoRepeat}
+use Rattle.records.specs.Records.{nextAt, recordAt}
 
 -- "stop cause, offset of the next record, ticks, records passed (refused ones included), records refused"
 abbrev pub reportOf : Stop → ℕ → ℕ → ℕ → ℕ → Report

@@ -3,7 +3,7 @@ use Prim.Native.Nat.{ℕ, _+_, _^_, _<_, _≤_}
 use mathlib.Core.List.{List}
 use lib.ListN.{length}
 use Rattle.trace.specs.declared.Report.{Report}
-use Rattle.trace.specs.Records.{nextAt}
+use Rattle.records.specs.Records.{nextAt}
 
 pub record Sound (t : List ℕ) (budget : ℕ) (r : Report) : Type 0 where
   pub place : r .next ≤ length t

@@ -4,22 +4,22 @@ ghost use mathlib.Core.Path.{_≡_};
 ghost use Prim.Native.Nat.{_+_, _-_, _^_, _<_, _≤_};
 ghost use lib.ListN.{length};
 ghost use Rattle.words.specs.Word.{bitOf};
-ghost use Rattle.registers.specs.Answer.{isDone};
+ghost use Rattle.device.specs.Answer.{isDone};
 ghost use Rattle.registers.specs.Calls.{from};
 ghost use Rattle.registers.specs.Calls.{tick as Call·tick, write as Call·write, tag as Call·tag};
-ghost use Rattle.registers.specs.State.{machine};
-ghost use Rattle.registers.specs.Tick.{badLevels};
+ghost use Rattle.device.specs.State.{machine};
+ghost use Rattle.ticking.specs.Tick.{badLevels};
 ghost use Rattle.trace.specs.Leaping.{SameEnd};
-ghost use Rattle.trace.specs.Records.{nextAt};
+ghost use Rattle.records.specs.Records.{nextAt};
 ghost use Rattle.trace.specs.Run.{callIn, machineOf, onceOf, passed, progressOf, repeated, runOf, stopped, ticksIn};
 ghost use Rattle.trace.specs.Run.{run as Run·run};
 ghost use Rattle.trace.specs.Sound.{Room, Sound};
 use crate::Progress;
-use crate::Record;
 use crate::Report;
-use crate::Stop;
-use registers::Answer;
-use registers::Crate;
+use device::Answer;
+use device::Crate;
+use records::Record;
+use records::Stop;
 
 // A refusal counts once.
 fn is_refusal(answer: Answer) -> bool
@@ -80,7 +80,7 @@ fn pass(mut r: Report, t: &[u8], ticks: u64, refused: bool) -> Report
     requires { ⌜ Room (now t) r × (r .ticks + ticks < 2 ^ 64) ⌝ }
     ensures { λ q. ⌜ q ≡ passed (now (t .entry)) r ticks refused ⌝ }
 {
-    r.next = crate::records::next_at(t, r.next);
+    r.next = records::next_at(t, r.next);
     r.ticks += ticks;
     r.records += 1;
     r.refused += count_of(refused);
@@ -118,12 +118,12 @@ fn tick_on(state: Crate, mem: &[u16], n: u64, inputs: u64, gates: u16) -> Crate
     if mem.len() != 16384 {
         return state;
     }
-    if registers::bad_levels(inputs, gates) {
+    if ticking::bad_levels(inputs, gates) {
         return state;
     }
     let mut on = state;
     let mut left = n;
-    if words::both(on.levels == inputs, WORTH <= left) {
+    if bools::both(on.levels == inputs, WORTH <= left) {
         let ahead = leap_on(on, left, inputs, gates);
         on = ahead.state;
         left = ahead.left;
@@ -132,7 +132,7 @@ fn tick_on(state: Crate, mem: &[u16], n: u64, inputs: u64, gates: u16) -> Crate
         let outcome = registers::tick(on, mem, inputs, gates);
         on = outcome.state;
         left -= 1;
-        if words::either(left < WORTH, on.common.loader.busy) {
+        if bools::either(left < WORTH, on.common.loader.busy) {
             continue;
         }
         let ahead = leap_on(on, left, inputs, gates);
@@ -155,9 +155,9 @@ fn run_ticks(
     requires { ⌜ Room (now t) (p .report) × (p .report .ticks ≤ budget) ⌝ }
     ensures { λ r. ⌜ Run·run r (now (mem .entry)) ≡ ticksIn (now (t .entry)) budget (Run·run p (now (mem .entry))) n inputs gates ⌝ }
 {
-    let refused = registers::bad_levels(inputs, gates);
+    let refused = ticking::bad_levels(inputs, gates);
     // levels come before the budget: a record that they refuse is passed
-    if words::without(budget - p.report.ticks < n, refused) {
+    if bools::without(budget - p.report.ticks < n, refused) {
         return stop_by(p, Stop::Spent);
     }
     if refused {
@@ -198,7 +198,7 @@ fn once(p: Progress, mem: &mut [u16], t: &[u8], budget: u64) -> Progress
     requires { ⌜ Sound (now t) budget (p .report) ⌝ }
     ensures { λ r. ⌜ Run·run r (now (mem .exit)) ≡ onceOf (now (t .entry)) budget (Run·run p (now (mem .entry))) ⌝ }
 {
-    let record = crate::records::record_at(t, p.report.next);
+    let record = records::record_at(t, p.report.next);
     match record {
         Record::AtEnd => stop_by(p, Stop::End),
         Record::Malformed(stop) => stop_by(p, stop),

@@ -8,7 +8,7 @@ use borrow.Author.Tests.{le-leb, le-ltb, leb-true, ltb-false, ltb-true}
 use lib.Dec.{leb, ltb}
 use lib.ListN.{getD}
 use Rattle.words.specs.Word.{bit}
-use Rattle.words.proofs.Tests.{cases, pick-elim}
+use Rattle.bools.proofs.Tests.{cases, pick-elim}
 use Rattle.lists.proofs.Tables.{each-then}
 use Rattle.watchdogs.specs.declared.watchdog.Watchdog.{Watchdog}
 use Rattle.watchdogs.specs.Leap.{leapWatchdogs, valueAfter, watchdogAfter}

@@ -3,7 +3,7 @@ use Prim.Native.Nat.{ℕ, _+_, _*_}
 use mathlib.Core.Bool.{_||_}
 use mathlib.Core.List.{List}
 use lib.Dec.{leb, ltb}
-use Rattle.words.specs.Pick.{pick}
+use Rattle.bools.specs.Pick.{pick}
 use Rattle.lists.specs.Table.{each}
 use Rattle.lines.specs.Lines.{inputCount}
 use Rattle.watchdogs.specs.declared.watchdog.Watchdog.{Watchdog}

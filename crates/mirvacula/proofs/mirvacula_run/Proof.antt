@@ -6,7 +6,7 @@ use borrow.Author.Needs.{needs}
 use borrow.Author.Tests.{eqb-true, not-false, not-true}
 use lib.Dec.{eqb}
 use lib.ListN.{length}
-use Rattle.words.proofs.Tests.{and-left, and-right}
+use Rattle.bools.proofs.Tests.{and-left, and-right}
 use Rattle.trace.specs.Run.{Run}
 use Rattle.mirvacula.specs.Exported.{exportOf, exportedBy, imageWords, isFitting, reportWords, stopCode}
 use Rattle.mirvacula.proofs.mirvacula_run.Statement.{statement}

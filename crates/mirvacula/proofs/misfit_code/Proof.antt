@@ -1,5 +1,5 @@
 -- `misfit_code` meets its contract, by the test of the memory's length.
-use Rattle.words.proofs.Tests.{tests}
+use Rattle.bools.proofs.Tests.{tests}
 use Rattle.mirvacula.proofs.misfit_code.Statement.{statement}
 use Rattle.mirvacula.proofs.misfit_code.Tie as tie
 

@@ -7,9 +7,9 @@ use lib.ListN.{length, length-set}
 use Rattle.lists.specs.Table.{tabulate}
 use Rattle.lists.proofs.Sweep.{Swept, swept-all, swept-length, swept-more, swept-none}
 use Rattle.lists.proofs.Tables.{getD-tabulate, length-tabulate}
-use Rattle.registers.specs.declared.answer.Read.{Read}
-use Rattle.registers.specs.Read.{readOf}
-use Rattle.registers.specs.State.{machine}
+use Rattle.device.specs.declared.answer.Read.{Read}
+use Rattle.reading.specs.Read.{readOf}
+use Rattle.device.specs.State.{machine}
 use Rattle.mirvacula.specs.Exported.{imageOf, imageStart, imageWords}
 use Rattle.mirvacula.proofs.put_image.Statement.{statement}
 use Rattle.mirvacula.proofs.put_image.Tie as tie

@@ -3,7 +3,7 @@ use mathlib.Core.Path.{ap}
 use mathlib.Core.List.{List}
 use Rattle.counters.specs.declared.counter.Counter.{Counter}
 use Rattle.gates.specs.Gate.{outputsOf}
-use Rattle.registers.specs.State.{crateOf}
+use Rattle.device.specs.State.{crateOf}
 use Rattle.counters.proofs.Leaps.{table-rises}
 use Rattle.gates.specs.Leap.{leapGates}
 use Rattle.lines.specs.Leap.{risesIn}

@@ -5,7 +5,7 @@ use borrow.Author.Needs.{needs}
 use borrow.Author.Tests.{eq-eqb, ne-eqb, not-false, not-true}
 use lib.ListN.{length, set}
 use lib.Seq.{set-out}
-use Rattle.words.proofs.Tests.{pick-same}
+use Rattle.bools.proofs.Tests.{pick-same}
 use Rattle.lists.proofs.Sweep.{getD-any}
 use Rattle.counters.specs.Counter.{counter0, counterAt}
 use Rattle.loader.specs.Loader.{groupAt, loadInto, takes}

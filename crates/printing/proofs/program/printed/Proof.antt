@@ -3,10 +3,11 @@ use native.Mathlib.Nat.{le-of-lt}
 use mathlib.Core.List.{append-assoc}
 use mathlib.Core.Path.{_≡_, refl, _∙_}
 use borrow.Author.Needs.{needs}
-use Rattle.registers.specs.State.{machine}
-use Rattle.printing.specs.Page.{written, cut}
-use Rattle.printing.specs.Printed.{ascii, printed}
-use Rattle.printing.proofs.Pages.{cut-two, fits}
+use Rattle.device.specs.State.{machine}
+use Rattle.pages.specs.Page.{written, cut}
+use Rattle.pages.specs.Text.{ascii}
+use Rattle.printing.specs.Printed.{printed}
+use Rattle.pages.proofs.Pages.{cut-two, fits}
 use Rattle.printing.proofs.Sizes.{printed-length}
 use Rattle.printing.proofs.program.printed.Statement.{statement}
 use Rattle.printing.proofs.program.printed.Tie as tie

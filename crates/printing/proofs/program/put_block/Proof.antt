@@ -1,8 +1,8 @@
 -- `put_block` meets its contract: a name, words and a line's end put one after the other.
 use mathlib.Core.List.{append-assoc}
 use borrow.Author.Needs.{needs}
-use Rattle.printing.specs.Printed.{ascii}
-use Rattle.printing.proofs.Pages.{cut-two}
+use Rattle.pages.specs.Text.{ascii}
+use Rattle.pages.proofs.Pages.{cut-two}
 use Rattle.printing.proofs.program.put_block.Statement.{statement}
 use Rattle.printing.proofs.program.put_block.Tie as tie
 

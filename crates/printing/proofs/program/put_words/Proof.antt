@@ -5,10 +5,10 @@ use native.Mathlib.Omega.{arith}
 use mathlib.Core.List.{_++_, append-nil}
 use mathlib.Core.Path.{_≡_, refl, sym, _∙_}
 use borrow.Author.Needs.{needs}
-use Rattle.registers.specs.State.{machine}
-use Rattle.printing.specs.Page.{written, cut}
+use Rattle.device.specs.State.{machine}
+use Rattle.pages.specs.Page.{written, cut}
 use Rattle.printing.specs.Printed.{wordsFrom}
-use Rattle.printing.proofs.Pages.{cut-again, cut-two, cut-written}
+use Rattle.pages.proofs.Pages.{cut-again, cut-two, cut-written}
 use Rattle.printing.proofs.Places.{words-more}
 use Rattle.printing.proofs.program.put_words.Statement.{statement}
 use Rattle.printing.proofs.program.put_words.Tie as tie

@@ -1,6 +1,6 @@
 -- `put_number` meets its contract: two texts put one after the other.
 use borrow.Author.Needs.{needs}
-use Rattle.printing.proofs.Pages.{cut-two}
+use Rattle.pages.proofs.Pages.{cut-two}
 use Rattle.printing.proofs.report.put_number.Statement.{statement}
 use Rattle.printing.proofs.report.put_number.Tie as tie
 

@@ -1,8 +1,9 @@
 -- `put_report` meets its contract: the parts of the line put one after the other.
 use mathlib.Core.List.{append-assoc}
 use borrow.Author.Needs.{needs}
-use Rattle.printing.specs.Printed.{ascii, reportLine}
-use Rattle.printing.proofs.Pages.{cut-two}
+use Rattle.pages.specs.Text.{ascii}
+use Rattle.printing.specs.Printed.{reportLine}
+use Rattle.pages.proofs.Pages.{cut-two}
 use Rattle.printing.proofs.report.put_report.Statement.{statement}
 use Rattle.printing.proofs.report.put_report.Tie as tie
 

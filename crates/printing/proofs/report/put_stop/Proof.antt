@@ -1,6 +1,7 @@
 -- `put_stop` meets its contract, by the stop.
 use borrow.Author.Needs.{needs}
-use Rattle.printing.specs.Printed.{ascii, stopText}
+use Rattle.pages.specs.Text.{ascii}
+use Rattle.printing.specs.Printed.{stopText}
 use Rattle.printing.proofs.report.put_stop.Statement.{statement}
 use Rattle.printing.proofs.report.put_stop.Tie as tie
 

@@ -4,7 +4,7 @@ use borrow.Author.Needs.{needs}
 use Rattle.lists.proofs.Tables.{tabulate-fill}
 use Rattle.counters.specs.Counter.{counter0}
 use Rattle.gates.specs.Gate.{gate0}
-use Rattle.registers.specs.State.{powerUp}
+use Rattle.device.specs.State.{powerUp}
 use Rattle.registers.proofs.calls.new_crate.Statement.{statement}
 use Rattle.registers.proofs.calls.new_crate.Tie as tie
 

@@ -2,7 +2,7 @@
 use borrow.Author.Needs.{needs}
 use borrow.Author.Tests.{eq-eqb, ne-eqb}
 use Rattle.registers.specs.Calls.{powered, poweredMemory}
-use Rattle.registers.specs.State.{memory0}
+use Rattle.device.specs.State.{memory0}
 use Rattle.registers.proofs.calls.power_up.Statement.{statement}
 use Rattle.registers.proofs.calls.power_up.Tie as tie
 

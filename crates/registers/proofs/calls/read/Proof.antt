@@ -2,7 +2,7 @@
 use mathlib.Core.Path.{refl}
 use borrow.Author.Needs.{needs}
 use borrow.Author.Tests.{eq-eqb, ne-eqb}
-use Rattle.registers.specs.Read.{readOf}
+use Rattle.reading.specs.Read.{readOf}
 use Rattle.registers.proofs.calls.read.Statement.{statement}
 use Rattle.registers.proofs.calls.read.Tie as tie
 

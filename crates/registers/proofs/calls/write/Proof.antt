@@ -3,8 +3,8 @@ use mathlib.Core.Path.{ap}
 use borrow.Author.Needs.{needs}
 use borrow.Author.Tests.{eq-eqb, ne-eqb}
 use Rattle.registers.specs.Calls.{answer, callAnswer, called, outcome, step}
-use Rattle.registers.specs.State.{Machine}
-use Rattle.registers.specs.Write.{writeAnswer}
+use Rattle.device.specs.State.{Machine}
+use Rattle.writing.specs.Write.{writeAnswer}
 use Rattle.registers.proofs.calls.write.Statement.{statement}
 use Rattle.registers.proofs.calls.write.Tie as tie
 

@@ -4,7 +4,7 @@ use mathlib.Core.Path.{_≡_, refl, sym, _∙_}
 use borrow.Author.Needs.{needs}
 use borrow.Author.Tests.{ne-eqb, not-false, not-true}
 use lib.ListN.{length}
-use Rattle.registers.specs.State.{machine}
+use Rattle.device.specs.State.{machine}
 use Rattle.trace.specs.Run.{run, runFrom, runOf}
 use Rattle.trace.specs.Sound.{Sound}
 use Rattle.trace.proofs.Listed.{halted-stays, run-on}

@@ -6,10 +6,10 @@ use mathlib.Core.Path.{_≡_, refl, sym, ap, _∙_}
 use borrow.Author.Needs.{needs}
 use borrow.Author.Tests.{ltb-false, not-true}
 use lib.Dec.{ltb}
-use Rattle.words.proofs.Tests.{and-left, and-right}
+use Rattle.bools.proofs.Tests.{and-left, and-right}
 use Rattle.registers.specs.Calls.{from}
-use Rattle.registers.specs.State.{Machine, machine}
-use Rattle.registers.specs.Tick.{badLevels}
+use Rattle.device.specs.State.{Machine, machine}
+use Rattle.ticking.specs.Tick.{badLevels}
 use Rattle.trace.specs.Run.{passed, passes, runOn, ticksIn}
 use Rattle.trace.proofs.Steps.{tick-refused}
 use Rattle.trace.proofs.running.run_ticks.Statement.{statement}

@@ -4,7 +4,7 @@ use mathlib.Core.Logic.{⊎-elim}
 use mathlib.Core.Path.{_≡_, refl, sym, _∙_}
 use borrow.Author.Needs.{needs}
 use Rattle.registers.specs.Calls.{tick, from}
-use Rattle.registers.specs.State.{machine}
+use Rattle.device.specs.State.{machine}
 use Rattle.trace.specs.Run.{repeated}
 use Rattle.trace.proofs.Leaping.{calls-refused, memory-refused}
 use Rattle.trace.proofs.Steps.{called-out, calls-less, calls-none, tick-refused}

@@ -1,0 +1,18 @@
+-- `control_map` meets its contract: each return is the definition's row by the tests on the way (`tests`).
+use Rattle.bools.proofs.Tests.{tests}
+use Rattle.device.specs.Map.{controlMap}
+use Rattle.device.proofs.map.control_map.Statement.{statement}
+use Rattle.device.proofs.map.control_map.Tie as tie
+
+pub control-map-spec : {M : Type 1} → statement M
+unfolding controlMap
+control-map-spec =
+    tie.close
+    (tie.spec
+    (λ c. search tests)
+    (λ c. search tests)
+    (λ c. search tests)
+    (λ c. search tests)
+    (λ c. search tests)
+    (λ c. search tests)
+    (λ c. search tests))

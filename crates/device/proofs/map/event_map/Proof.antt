@@ -1,0 +1,23 @@
+-- `event_map` meets its contract: each return is the definition's row by the tests on the way (`tests`).
+use Rattle.bools.proofs.Tests.{tests}
+use Rattle.device.specs.Map.{eventMap}
+use Rattle.device.proofs.map.event_map.Statement.{statement}
+use Rattle.device.proofs.map.event_map.Tie as tie
+
+pub event-map-spec : {M : Type 1} → statement M
+unfolding eventMap
+event-map-spec =
+    tie.close
+    (tie.spec
+    (λ c. search tests)
+    (λ c. search tests)
+    (λ c. search tests)
+    (λ c. search tests)
+    (λ c. search tests)
+    (λ c. search tests)
+    (λ c. search tests)
+    (λ c. search tests)
+    (λ c. search tests)
+    (λ c. search tests)
+    (λ c. search tests)
+    (λ c. search tests))

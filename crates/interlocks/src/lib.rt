@@ -1,0 +1,4 @@
+// The six interlock outputs.
+mod interlock;
+
+pub use interlock::outputs;

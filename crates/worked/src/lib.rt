@@ -1,0 +1,1 @@
+// Worked cases of the definitions, computed by the prover, section by section.
