@@ -179,11 +179,14 @@ pub fn in_prepare(state: GateState) -> bool
     }
 }
 
-// One less, and 0 at 0.
-fn less_one(n: u32) -> u32
-    ensures { λ r. ⌜ r ≡ n - 1 ⌝ }
+// So much less, and 0 at the least.
+pub fn less(n: u32, k: u32) -> u32
+    ensures { λ r. ⌜ r ≡ n - k ⌝ }
 {
-    if n == 0 { 0 } else { n - 1 }
+    if n <= k {
+        return 0;
+    }
+    n - k
 }
 
 // The timer after a tick: set on the way into PREPARE, one less while there.
@@ -192,7 +195,7 @@ fn timer_of(was: bool, is: bool, timer: u32, timeout: u16) -> u32
 {
     if is {
         if was {
-            return less_one(timer);
+            return less(timer, 1);
         }
         return 16384 * (timeout as u32);
     }

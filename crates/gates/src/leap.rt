@@ -1,22 +1,13 @@
 // Gates over so many ticks at once, which leave each in its state.
 ghost use mathlib.Core.Path.{_≡_};
-ghost use Prim.Native.Nat.{_-_, min};
+ghost use Prim.Native.Nat.{min};
 ghost use Rattle.gates.specs.Leap.{gateAfter, leapGates, steadyGates};
 ghost use Rattle.gates.specs.Leap.{horizon as Leap·horizon, same as Leap·same, settled as Leap·settled, sooner as Leap·sooner, stays as Leap·stays, steady as Leap·steady};
 use crate::gate::Gate;
 use crate::gate::GateState;
 use crate::gate::in_prepare;
+use crate::gate::less;
 use crate::gate::output_of;
-
-// So much less, and 0 at the least.
-fn less(n: u32, k: u32) -> u32
-    ensures { λ r. ⌜ r ≡ n - k ⌝ }
-{
-    if n <= k {
-        return 0;
-    }
-    n - k
-}
 
 // The gate with its timer k ticks on.
 fn gate_after(mut g: Gate, k: u32) -> Gate
