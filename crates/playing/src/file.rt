@@ -1,7 +1,10 @@
 // Traces in files, played to a crate.
+ghost use mathlib.Core.Path.{_≡_};
 ghost use Prim.Native.Nat.{_≤_};
 ghost use lib.ListN.{length};
 ghost use Rattle.io.specs.Counts.{Counts};
+ghost use Rattle.device.specs.State.{machine};
+ghost use Rattle.playing.specs.Often.{ranOften};
 use device::Crate;
 
 // The bytes of a file at the start of the buffer, and how many they are: none where it cannot be opened, which is told on standard error.
@@ -18,8 +21,10 @@ pub fn load(file: &[u8], buf: &mut [u8]) -> usize
     n
 }
 
-// A trace, so many times.
-pub fn run_often(state: Crate, mem: &mut [u16], trace: &[u8], times: u32) -> Crate {
+// A trace, so many times, with 1,000,000 ticks each time.
+pub fn run_often(state: Crate, mem: &mut [u16], trace: &[u8], times: u32) -> Crate
+    ensures { λ r. ⌜ machine r (now (mem .exit)) ≡ ranOften times (now (trace .entry)) (machine state (now (mem .entry))) ⌝ }
+{
     let mut on = state;
     let mut left = times;
     while 0 < left {
@@ -30,7 +35,7 @@ pub fn run_often(state: Crate, mem: &mut [u16], trace: &[u8], times: u32) -> Cra
     on
 }
 
-// The trace of a file, so many times.
+// The trace of a file, so many times: of what is read no contract can speak.
 pub fn play_often(state: Crate, mem: &mut [u16], file: &[u8], times: u32) -> Crate {
     let mut buf = io::large_buffer();
     let n = load(file, &mut buf);
