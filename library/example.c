@@ -1,6 +1,10 @@
-/* Runs the trace on standard input with 1,000,000 ticks and prints its report and the six interlock outputs. */
+/*
+ * Runs the trace on standard input with 1,000,000 ticks and prints its report and the six interlock outputs. With the
+ * argument `capture` the input is a capture of the pulse recorder, of at most 1,000,000 frames, and its trace is run.
+ */
 #include <inttypes.h>
 #include <stdio.h>
+#include <string.h>
 
 #include "mirvacula.h"
 
@@ -10,12 +14,13 @@
 
 static uint16_t memory[MIRVACULA_MEMORY_WORDS];
 static uint16_t image[MIRVACULA_IMAGE_WORDS];
-static uint8_t trace[TRACE_BYTES];
+static uint8_t capture[BUDGET * MIRVACULA_FRAME_BYTES];
+static uint8_t trace[BUDGET * MIRVACULA_TICK_BYTES];
 
-int main(void)
+/* Runs so many bytes of the trace. */
+static int run(size_t bytes)
 {
     uint64_t report[MIRVACULA_REPORT_WORDS];
-    size_t bytes = fread(trace, 1, sizeof trace, stdin);
     uint16_t stop = mirvacula_run(memory, MIRVACULA_MEMORY_WORDS, trace, bytes, BUDGET, report, MIRVACULA_REPORT_WORDS,
                                   image, MIRVACULA_IMAGE_WORDS);
 
@@ -23,4 +28,37 @@ int main(void)
            report[1], report[2], report[3], report[4]);
     printf("outputs %02x\n", (unsigned)image[OUTPUTS - MIRVACULA_IMAGE_START]);
     return stop == MIRVACULA_END ? 0 : 1;
+}
+
+/* Says why there is nothing to run. */
+static int refuse(const char *why)
+{
+    fprintf(stderr, "%s\n", why);
+    return 1;
+}
+
+/* The trace has room for every capture that is read, so there are two ways to be refused. */
+static int convert_and_run(void)
+{
+    uint64_t answer[MIRVACULA_ANSWER_WORDS];
+    size_t bytes = fread(capture, 1, sizeof capture, stdin);
+
+    if (bytes == sizeof capture && getchar() != EOF)
+        return refuse("the capture is longer than the 1,000,000 ticks of a run");
+    switch (mirvacula_convert(capture, bytes, trace, sizeof trace, answer, MIRVACULA_ANSWER_WORDS)) {
+    case MIRVACULA_DONE:
+        return run(answer[0]);
+    case MIRVACULA_BAD_LEVEL:
+        fprintf(stderr, "frame %" PRIu64 ": a line that does not exist (6)\n", answer[1]);
+        return 1;
+    default:
+        return refuse("the capture is not of whole frames of nine bytes (12)");
+    }
+}
+
+int main(int argc, char **argv)
+{
+    if (argc == 2 && strcmp(argv[1], "capture") == 0)
+        return convert_and_run();
+    return run(fread(trace, 1, TRACE_BYTES, stdin));
 }

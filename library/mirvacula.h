@@ -1,4 +1,4 @@
-/* The counting core of a beam loss counter crate: rehearses a patching away from the beam. */
+/* The counting core of a beam loss counter crate: rehearses a patching away from the beam; makes traces of captures. */
 #ifndef MIRVACULA_H
 #define MIRVACULA_H
 
@@ -20,6 +20,17 @@
 #define MIRVACULA_SPENT 254      /* a tick record exceeds the ticks left */
 #define MIRVACULA_BAD_BUFFER 255 /* report or image of the wrong length, and the memory as it should be: nothing is done */
 
+#define MIRVACULA_FRAME_BYTES 9  /* frame of a capture: 7 bytes of inputs, 2 of gates, high bytes first */
+#define MIRVACULA_TICK_BYTES 14  /* tick record of a trace */
+#define MIRVACULA_ANSWER_WORDS 2 /* length of the trace in bytes, first frame with a bad level */
+
+/* What a conversion returns; the refusals in the order of the checks. */
+#define MIRVACULA_DONE 0
+#define MIRVACULA_NOT_FRAMES 12  /* capture not a multiple of 9 bytes */
+#define MIRVACULA_BAD_LEVEL 6    /* input 54 or 55 or gate 12 to 15 is 1 in a frame */
+#define MIRVACULA_NO_ROOM 13     /* output shorter than the trace */
+/* MIRVACULA_BAD_BUFFER 255         answer of the wrong length, and the capture of whole frames: nothing is done */
+
 /*
  * Powers up a crate on the lent memory (which it clears), runs the trace with a budget of ticks and fills in report and
  * image. Returns why the run stopped; report[0] says the same. Where report or image has the wrong
@@ -28,5 +39,17 @@
  */
 uint16_t mirvacula_run(uint16_t *memory, size_t memory_words, const uint8_t *trace, size_t trace_bytes, uint64_t budget,
                        uint64_t *report, size_t report_words, uint16_t *image, size_t image_words);
+
+/*
+ * Writes the trace of a capture of the pulse recorder from the start of out on. Equal neighbouring frames become one tick
+ * record, with a repeat up to 65,535; no trace of tick records for these frames has fewer records. MIRVACULA_TICK_BYTES of output
+ * for each MIRVACULA_FRAME_BYTES of capture are always enough, and bytes past the trace stay. Returns MIRVACULA_DONE or
+ * why the capture is refused; then the whole output stays. answer[0] is the length of the trace in bytes, 0 where it is
+ * refused; answer[1] is, for MIRVACULA_BAD_LEVEL, the first frame with a bad level, counted from 0, and else 0. Where
+ * answer has the wrong length nothing is done, and it returns MIRVACULA_NOT_FRAMES or MIRVACULA_BAD_BUFFER. Each length is
+ * the number of elements behind the pointer before it. A pointer may not be NULL, and the three areas may not overlap.
+ */
+uint16_t mirvacula_convert(const uint8_t *capture, size_t capture_bytes, uint8_t *out, size_t out_bytes,
+                           uint64_t *answer, size_t answer_words);
 
 #endif

@@ -12,6 +12,7 @@ import trace_text as tool  # noqa: E402
 ROOT = Path(__file__).parent.parent
 EXAMPLES = ROOT / "examples"
 REHEARSE = ROOT / "target" / "bin" / "rehearse"
+CONVERT = ROOT / "target" / "bin" / "convert"
 FIRST = bytes.fromhex("02000410000D80" "02000408020001" "02000411080001" "01000B0001000000000000010001")
 
 # Traces of a generator: whole, cut in the header, cut in the payload, with events and many test signals.
@@ -357,7 +358,7 @@ class Examples(unittest.TestCase):
 
     def test_traces_are_packed_texts(self):
         texts = sorted(EXAMPLES.glob("*.txt"))
-        self.assertEqual(len(texts), 4)
+        self.assertEqual(len(texts), 5)
         for text in texts:
             self.assertEqual(tool.pack(text.read_bytes()), text.with_suffix(".trace").read_bytes(), text.name)
 
@@ -388,7 +389,7 @@ class Neighbour(unittest.TestCase):
         self.assertEqual(self.shown_by_section_1("two_sections_neighbour_changed.txt"), alone)
 
 
-@unittest.skipUnless(REHEARSE.exists(), "rehearse is not built")
+@unittest.skipUnless(REHEARSE.exists() and CONVERT.exists(), "rehearse or convert is not built")
 class Guide(unittest.TestCase):
     """Every command of the user guide prints what the guide shows below it."""
 

@@ -1,4 +1,4 @@
-//! The library of an earlier revision, its function renamed.
+//! The library of an earlier revision, its functions renamed.
 
 use mirvacula::Rehearsal;
 

@@ -1,7 +1,24 @@
 //! Processor time of the running thread: what other programs take is not counted.
 
+use std::hint::black_box;
+
+/// The median seconds of runs 0, 1 and so on, made in turn in every round. What a run gives is dropped behind its time.
+pub fn medians<T>(rounds: usize, runs: usize, mut run: impl FnMut(usize) -> T) -> Vec<f64> {
+    let mut times = vec![Vec::new(); runs];
+    for _ in 0..rounds {
+        for (k, times) in times.iter_mut().enumerate() {
+            let start = seconds();
+            let given = black_box(run(black_box(k)));
+            times.push(seconds() - start);
+            drop(given);
+        }
+    }
+    times.iter_mut().for_each(|times| times.sort_by(f64::total_cmp));
+    times.iter().map(|times| times[times.len() / 2]).collect()
+}
+
 #[cfg(target_os = "linux")]
-pub fn seconds() -> f64 {
+fn seconds() -> f64 {
     #[repr(C)]
     struct Time {
         seconds: i64,
@@ -20,7 +37,7 @@ pub fn seconds() -> f64 {
 
 /// Elsewhere, wall time.
 #[cfg(not(target_os = "linux"))]
-pub fn seconds() -> f64 {
+fn seconds() -> f64 {
     use std::time::{SystemTime, UNIX_EPOCH};
     SystemTime::now().duration_since(UNIX_EPOCH).map_or(0.0, |since| since.as_secs_f64())
 }

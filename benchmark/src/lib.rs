@@ -1,4 +1,5 @@
-//! The crate changed in place, to be timed against the library.
+//! What the library is timed against: the crate changed in place, and the conversion of captures in plain Rust.
 #![forbid(unsafe_code)]
 
+pub mod conversion;
 pub mod inplace;

@@ -1,8 +1,10 @@
 //! Times the library, the reference model and the crate in place on the same traces, in turn, and compares what they
-//! give. With the feature `before` the library of an earlier revision is among them.
+//! give. With the feature `before` the library of an earlier revision is among them. Then it times conversions of
+//! captures.
 
 #[cfg(feature = "before")]
 mod before;
+mod captures;
 mod clock;
 mod traces;
 
@@ -102,28 +104,13 @@ fn check(trace: &Trace) -> Result<Report, String> {
     }
 }
 
-fn timed(run: Run, trace: &Trace) -> f64 {
-    let start = clock::seconds();
-    let given = std::hint::black_box(run(std::hint::black_box(trace)));
-    let end = clock::seconds();
-    drop(given);
-    end - start
-}
-
 fn rounds(trace: &Trace) -> usize {
     if trace.ticks < LONG_TICKS { ROUNDS } else { LONG_ROUNDS }
 }
 
-/// The median seconds of each implementation, run in turn.
+/// The median seconds of each implementation.
 fn medians(trace: &Trace) -> Vec<f64> {
-    let mut times = vec![Vec::new(); IMPLEMENTATIONS.len()];
-    for _ in 0..rounds(trace) {
-        for (times, (_, run)) in times.iter_mut().zip(IMPLEMENTATIONS) {
-            times.push(timed(*run, trace));
-        }
-    }
-    times.iter_mut().for_each(|times| times.sort_by(f64::total_cmp));
-    times.iter().map(|times| times[times.len() / 2]).collect()
+    clock::medians(rounds(trace), IMPLEMENTATIONS.len(), |k| IMPLEMENTATIONS[k].1(trace))
 }
 
 /// Three digits that count.
@@ -166,22 +153,28 @@ fn once() -> ExitCode {
     ExitCode::SUCCESS
 }
 
-fn main() -> ExitCode {
-    if std::env::args().nth(1).as_deref() == Some("once") {
-        return once();
-    }
+/// Prints the table of the traces.
+fn time_traces() -> Result<(), String> {
     println!("{}", header());
     for trace in traces::all() {
-        match check(&trace) {
-            Ok(report) => println!("{}", row(&trace, &report)),
-            Err(differences) => {
-                eprintln!("{differences}");
-                return ExitCode::FAILURE;
-            }
-        }
+        let report = check(&trace)?;
+        println!("{}", row(&trace, &report));
     }
     let long = LONG_TICKS / 1_000_000;
     println!("Medians of {ROUNDS} rounds of processor time, of {LONG_ROUNDS} for {long} million ticks or more;");
     println!("reports, images and memories agree.");
-    ExitCode::SUCCESS
+    Ok(())
+}
+
+fn main() -> ExitCode {
+    if std::env::args().nth(1).as_deref() == Some("once") {
+        return once();
+    }
+    match time_traces().and_then(|()| captures::time()) {
+        Ok(()) => ExitCode::SUCCESS,
+        Err(problem) => {
+            eprintln!("{problem}");
+            ExitCode::FAILURE
+        }
+    }
 }

@@ -1,5 +1,9 @@
 //! Rehearses a patching of a beam loss counter crate: a trace is run from power-up, and its report and the registers
-//! that it leaves are handed back.
+//! that it leaves are handed back. A capture of the pulse recorder becomes such a trace.
+
+mod captures;
+
+pub use captures::{convert, trace_of, NotConverted, FRAME_BYTES, TICK_BYTES};
 
 pub const MEMORY_WORDS: usize = 16_384;
 pub const IMAGE_START: u16 = 0x0600;

@@ -1,4 +1,7 @@
 //! The library against the reference model, on random traces.
+mod common;
+
+use common::{all_agree, number_of};
 use mirvacula::{run, Rehearsal, Stop, IMAGE_START, MEMORY_WORDS};
 use reference::generator::{self, Family};
 use reference::trace::{self, from_power_up, Report as Expected};
@@ -6,11 +9,10 @@ use reference::Crate;
 
 /// How many random traces: `TRACES=n` and, of long repeats, `REPEATS=n` set another number.
 fn traces(family: Family) -> u64 {
-    let (name, number) = match family {
-        Family::Scenes => ("TRACES", 20_000),
-        Family::Repeats => ("REPEATS", 2_000),
-    };
-    std::env::var(name).ok().and_then(|n| n.parse().ok()).unwrap_or(number)
+    match family {
+        Family::Scenes => number_of("TRACES", 20_000),
+        Family::Repeats => number_of("REPEATS", 2_000),
+    }
 }
 
 fn same_stop(stop: Stop, expected: trace::Stop) -> bool {
@@ -61,20 +63,14 @@ fn compare_seed(family: Family, seed: u64) -> Result<(), String> {
     Ok(())
 }
 
-fn all_agree(family: Family) {
-    let seeds = 0..traces(family);
-    let differences: Vec<String> = seeds.filter_map(|seed| compare_seed(family, seed).err()).collect();
-    assert!(differences.is_empty(), "{} differences:\n{}", differences.len(), differences.join("\n"));
-}
-
 #[test]
 fn random_traces_agree() {
-    all_agree(Family::Scenes);
+    all_agree(traces(Family::Scenes), |seed| compare_seed(Family::Scenes, seed));
 }
 
 #[test]
 fn random_traces_of_long_repeats_agree() {
-    all_agree(Family::Repeats);
+    all_agree(traces(Family::Repeats), |seed| compare_seed(Family::Repeats, seed));
 }
 
 #[test]

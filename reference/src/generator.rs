@@ -4,6 +4,7 @@
 //! a small pool of lines and counters, so that the scenes meet each other. A
 //! part of the traces is damaged at the end.
 
+pub mod captures;
 mod repeats;
 
 use crate::model::bad_level;

@@ -2,9 +2,10 @@
 //!
 //! "01" is the scope paper, "02" the change requests, "Manual" the Unilac-BLM
 //! Programmer's Manual ver. 0.1. Where two speak, 02 decides, then 01. Of 02,
-//! request 1 is in.
+//! requests 1 and 2 are in.
 #![forbid(unsafe_code)]
 
+pub mod capture;
 pub mod counter;
 pub mod coverage;
 pub mod gate;

@@ -26,3 +26,6 @@ pub const WRONG_LENGTH: u8 = 8;
 pub const CUT: u8 = 9;
 pub const REPEAT_ZERO: u8 = 10;
 pub const DOWNLOAD_LENGTH: u8 = 11;
+// 02, CR 2.
+pub const NOT_FRAMES: u8 = 12;
+pub const NO_ROOM: u8 = 13;

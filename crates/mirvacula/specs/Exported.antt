@@ -1,4 +1,4 @@
--- What the library's function for C and Rust gives: a trace run from power-up, its report and its register image as numbers.
+-- What `mirvacula_run` gives programs in C and Rust: a trace run from power-up, its report and its register image as numbers.
 use Prim.Native.Nat.{ℕ, _+_}
 use mathlib.Core.Bool.{Bool, _&&_}
 use mathlib.Core.List.{List, [], _∷_}
@@ -26,7 +26,7 @@ stopCode WrongLength = stopNumber WrongLength
 stopCode Cut = stopNumber Cut
 stopCode NoRepeat = stopNumber NoRepeat
 
--- nothing is done where a lent report or image has the wrong length
+-- nothing is done where a lent report, image or answer has the wrong length
 abbrev pub badBuffer : ℕ
 badBuffer = 255
 

@@ -1,9 +1,10 @@
-// The library for programs in C and Rust: a trace run from power-up, its report and its register image as numbers.
+// The library for programs in C and Rust: a trace run from power-up, its report and its register image as numbers; a capture as a trace.
 ghost use mathlib.Core.Path.{_≡_};
 ghost use lib.Dec.{eqb};
 ghost use lib.ListN.{length};
 ghost use Rattle.bools.specs.Pick.{pick};
 ghost use Rattle.device.specs.State.{machine};
+ghost use Rattle.mirvacula.specs.Converting.{answered, convertOf, unanswered};
 ghost use Rattle.mirvacula.specs.Exported.{badBuffer, exported, exportOf, imageOf, imageWords, reportOf, reportWords, runOn, stopCode};
 ghost use Rattle.records.specs.declared.Stop.the-variants.{Memory};
 ghost use Rattle.records.specs.Stops.{stopNumber};
@@ -90,4 +91,26 @@ pub extern "C" fn mirvacula_run(
     put_report(report, told, code);
     put_image(image, end.state, mem);
     code
+}
+
+// An answer of the wrong length; a capture that is not of whole frames comes first.
+fn unanswered_code(bytes: usize) -> u16
+    ensures { λ r. ⌜ r ≡ unanswered bytes ⌝ }
+{
+    if bytes % 9 == 0 { 255 } else { 12 }
+}
+
+// A capture becomes a trace. The answer is the length of the trace in bytes and, of a refusal by 6, the frame. Nothing is done where the answer is
+// not of 2 numbers.
+#[no_mangle]
+pub extern "C" fn mirvacula_convert(capture: &[u8], out: &mut [u8], answer: &mut [u64]) -> u16
+    ensures { λ r. ⌜ answered r (now (out .exit)) (now (answer .exit)) ≡ convertOf (now (capture .entry)) (now (out .entry)) (now (answer .entry)) ⌝ }
+{
+    if answer.len() != 2 {
+        return unanswered_code(capture.len());
+    }
+    let made = captures::convert(capture, out);
+    answer[0] = made.bytes as u64;
+    answer[1] = made.frame as u64;
+    made.number
 }

@@ -31,14 +31,20 @@ nextAt t at = at + headerBytes + lengthAt t at
 abbrev pub repeatBytes : ℕ
 repeatBytes = 2
 
+abbrev pub inputBytes : ℕ
+inputBytes = 7
+
+abbrev pub gateBytes : ℕ
+gateBytes = 2
+
 abbrev pub tickBytes : ℕ → ℕ
-tickBytes width = width + 9
+tickBytes width = width + (inputBytes + gateBytes)
 
 -- cause 10: "repeat 0"
 unfoldable pub ticksAt : ℕ → List ℕ → ℕ → Record
 ticksAt width t at =
     pick (eqb (numberAt t at width) 0) (Malformed NoRepeat)
-    (Ticks (numberAt t at width) (numberAt t (at + width) 7) (numberAt t (at + width + 7) 2))
+    (Ticks (numberAt t at width) (numberAt t (at + width) inputBytes) (numberAt t (at + width + inputBytes) gateBytes))
 
 -- "0x02, 4 bytes: address, word. 0x03, 4 bytes: an event tag."
 unfoldable pub payloadAt : ℕ → List ℕ → ℕ → Record

@@ -6,7 +6,7 @@ use Rattle.lists.specs.Checks.{Row, right}
 use Rattle.lists.specs.Table.{tableFrom, tabulate, each, any}
 use Rattle.counters.specs.Counter.{counterStep, counterTick, tickCounters, clearCounters, counterAt, overflowWord}
 use Rattle.gates.specs.Gate.{gateStep, eachGate, gateAt, gateBits, outputsOf, stateWord}
-use Rattle.lines.specs.Lines.{stepPhases, riseOf, risesOf}
+use Rattle.lines.specs.Lines.{badLevels, riseOf, risesOf, stepPhases}
 use Rattle.lines.specs.Raw.{countRises}
 use Rattle.loader.specs.Loader.{pushed, oldest, shifted, dropped, loaderStep, queueStep, groupAt, loadInto}
 use Rattle.loader.specs.Memory.{wordAt, loaded, replaced}
@@ -17,7 +17,7 @@ use Rattle.device.specs.Map.{backplaneMap, statusMap, controlMap, eventMap, cou
 use Rattle.reading.specs.Read.{moduleWord, statusWord, settingWord, wordIn, readOf}
 use Rattle.device.specs.State.{powerUp, memory0}
 use Rattle.tagging.specs.Tag.{tagRequest, commanded, tagOf, tagAnswer}
-use Rattle.ticking.specs.Tick.{badLevels, commonTick, restTick, tickOf}
+use Rattle.ticking.specs.Tick.{commonTick, restTick, tickOf}
 use Rattle.writing.specs.Write.{requestAnswer, requested, reloadAnswer, reloadWrite, controlWrite, keyWrite, enableWrite, restWrite, writeAnswer, resetBy, writeAt}
 
 unfoldable pub computing : List Row → Bool

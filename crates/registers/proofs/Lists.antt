@@ -11,7 +11,7 @@ use Rattle.words.specs.Word.{bitOf}
 use Rattle.lists.specs.Table.{tableFrom, tabulate}
 use Rattle.registers.specs.Calls.{Call, tick, acceptedTicks, answer, callAnswer, from, isRefused, refusals, step, tickOne}
 use Rattle.device.specs.State.{Machine}
-use Rattle.ticking.specs.Tick.{badLevels}
+use Rattle.lines.specs.Lines.{badLevels}
 use Rattle.registers.proofs.Whole.{full}
 
 pub from-append : (m : Machine) (l k : List Call) → from m (l ++ k) ≡ from (from m l) k

@@ -12,7 +12,7 @@ use Rattle.registers.specs.Calls.{Call, tick, write, tag, download, answ
 use Rattle.device.specs.Map.{decodeOf}
 use Rattle.device.specs.State.{Machine, withState}
 use Rattle.tagging.specs.Tag.{commandOf, commanded, eventsOn, notedIn, rightKey, tagAnswer, tagOf, tagRequest}
-use Rattle.ticking.specs.Tick.{badLevels}
+use Rattle.lines.specs.Lines.{badLevels}
 use Rattle.writing.specs.Write.{reloadWrite, writeAnswer, writeAt}
 
 refused-write : (m : Machine) (r : Register) (w : ℕ) → isDone (writeAnswer (m .state .common) r w) ≡ false → writeAt m r w ≡ m

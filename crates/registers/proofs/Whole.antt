@@ -17,7 +17,7 @@ use Rattle.loader.specs.Memory.{isWhole}
 use Rattle.registers.specs.Calls.{Call, tick, write, tag, download, called, downloadAnswer, step}
 use Rattle.device.specs.Map.{decodeOf}
 use Rattle.device.specs.State.{Machine}
-use Rattle.ticking.specs.Tick.{badLevels}
+use Rattle.lines.specs.Lines.{badLevels}
 use Rattle.writing.specs.Write.{writeAt}
 
 -- what an accepted download says of its numbers

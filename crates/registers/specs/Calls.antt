@@ -16,7 +16,8 @@ use Rattle.device.specs.Answer.{isDone}
 use Rattle.device.specs.Map.{decodeOf}
 use Rattle.device.specs.State.{Machine, machine, memory0, powerUp, withMemory, withState}
 use Rattle.tagging.specs.Tag.{notedIn, tagAnswer, tagOf}
-use Rattle.ticking.specs.Tick.{badLevels, tickOf}
+use Rattle.ticking.specs.Tick.{tickOf}
+use Rattle.lines.specs.Lines.{badLevels}
 use Rattle.writing.specs.Write.{writeAnswer, writeAt}
 
 -- a call: levels of inputs and gates, address and word, an event tag, dataset and words

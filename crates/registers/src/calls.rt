@@ -190,7 +190,7 @@ pub fn tick(state: Crate, mem: &[u16], inputs: u64, gates: u16) -> Outcome
             state,
         };
     }
-    if ticking::bad_levels(inputs, gates) {
+    if lines::bad_levels(inputs, gates) {
         return Outcome {
             answer: Answer::Level,
             state,

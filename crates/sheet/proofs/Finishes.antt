@@ -26,7 +26,8 @@ use Rattle.registers.specs.Calls.{Call, tick, write, tag, download, acceptedTic
 use Rattle.device.specs.Map.{decodeOf, eventMap, kept}
 use Rattle.device.specs.State.{Machine, memory0, powerUp, withState}
 use Rattle.tagging.specs.Tag.{commandOf, commanded, eventsOn, rightKey, tagOf, tagRequest}
-use Rattle.ticking.specs.Tick.{badLevels, commonTick, tickOf}
+use Rattle.ticking.specs.Tick.{commonTick, tickOf}
+use Rattle.lines.specs.Lines.{badLevels}
 use Rattle.writing.specs.Write.{controlWrite, datasetIn, enableWrite, groupIn, keyWrite, onCommon, reloadAnswer, reloadWrite, requestAnswer, requested, triggers, withReload, writeAt}
 use Rattle.registers.proofs.Lists.{full-from}
 use Rattle.registers.proofs.Whole.{full, step-called}

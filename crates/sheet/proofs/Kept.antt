@@ -28,7 +28,8 @@ use Rattle.registers.specs.Calls.{Call, tick, write, tag, download, called, dow
 use Rattle.device.specs.Map.{decodeOf, kept}
 use Rattle.device.specs.State.{Machine, memory0, powerUp, withGroups, withMemory, withRest, withState}
 use Rattle.tagging.specs.Tag.{commandOf, commanded, eventsOn, notedIn, rightKey, tagOf}
-use Rattle.ticking.specs.Tick.{badLevels, tickOf}
+use Rattle.ticking.specs.Tick.{tickOf}
+use Rattle.lines.specs.Lines.{badLevels}
 use Rattle.writing.specs.Write.{onCommon, onCounters, onGates, resetBy, writeAt}
 use Rattle.registers.proofs.Whole.{length-replaced}
 use Rattle.sheet.specs.Lines.{Holds, Lines, join, linesAt, linesIn, linesOf}

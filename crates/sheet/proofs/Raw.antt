@@ -12,7 +12,7 @@ use Rattle.words.specs.Word.{bit, bitOf}
 use Rattle.words.proofs.Packing.{bit-pack, bit-zero}
 use Rattle.bools.proofs.Tests.{both, cases}
 use Rattle.lists.proofs.Tables.{getD-each, getD-tabulate}
-use Rattle.lines.specs.Lines.{inputRise, riseOf, risesOf}
+use Rattle.lines.specs.Lines.{badLevels, inputRise, riseOf, risesOf}
 use Rattle.lines.specs.Raw.{countRises, rawAt, rawStep}
 use Rattle.loader.specs.Memory.{isWhole}
 use Rattle.device.specs.declared.answer.Answer.the-variants.{Done}
@@ -28,7 +28,7 @@ use Rattle.device.specs.Map.{counterMap, decodeOf}
 use Rattle.reading.specs.Read.{lowFirst, readBy, readOf, statusWord, wordIn}
 use Rattle.device.specs.State.{Machine, powerUp, withState}
 use Rattle.tagging.specs.Tag.{commandOf, commanded, eventsOn, notedIn, rightKey, tagOf}
-use Rattle.ticking.specs.Tick.{badLevels, restTick, tickOf}
+use Rattle.ticking.specs.Tick.{restTick, tickOf}
 use Rattle.writing.specs.Write.{restWrite, writeAt}
 use Rattle.registers.proofs.Whole.{full, step-called}
 use Rattle.sheet.specs.Raw.{levelsOf, rawCount, risesIn}

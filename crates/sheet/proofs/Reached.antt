@@ -23,7 +23,7 @@ use Rattle.gates.specs.declared.gate.Gate.{Gate}
 use Rattle.watchdogs.specs.declared.watchdog.Watchdog.{Watchdog}
 use Rattle.counters.specs.Counter.{clearCounters, cleared, counter0, counterAt, counterStep, counterTick, resetOn, tickCounters, withInput}
 use Rattle.gates.specs.Gate.{eachGate, gate0, gateAt, gateStep, withMode, withPrepare, withPreparePulse, withRecover, withRecoverPulse, withTimeout}
-use Rattle.lines.specs.Lines.{phaseLimit}
+use Rattle.lines.specs.Lines.{badLevels, phaseLimit}
 use Rattle.lines.specs.Raw.{countRises, rawAt}
 use Rattle.loader.specs.Loader.{request0}
 use Rattle.loader.specs.Memory.{loaded, memoryWords, replaced, wordAt}
@@ -41,7 +41,7 @@ use Rattle.registers.specs.Calls.{Call, tick, write, tag, download, after, call
 use Rattle.device.specs.Map.{decodeOf, kept, usedBits}
 use Rattle.device.specs.State.{Machine, common0, memory0, powerUp, withGroups, withMemory, withRegisters, withRest, withState}
 use Rattle.tagging.specs.Tag.{commandOf, commanded, eventsOn, notedIn, rightKey, tagOf, tagRequest}
-use Rattle.ticking.specs.Tick.{badLevels, commonTick, restTick, tickOf}
+use Rattle.ticking.specs.Tick.{commonTick, restTick, tickOf}
 use Rattle.writing.specs.Write.{controlWrite, datasetIn, enableWrite, keyWrite, onCommon, onCounters, onGates, reloadAnswer, reloadWrite, requestAnswer, requested, resetBy, restWrite, triggers, withReload, writeAt}
 use Rattle.registers.proofs.Whole.{accepted, length-replaced}
 use Rattle.sheet.specs.Reachable.{CommonInRange, CounterInRange, GateInRange, OfWords, Reached, RequestInRange, RestInRange}

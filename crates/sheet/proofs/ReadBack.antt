@@ -45,7 +45,8 @@ use Rattle.device.specs.Map.{backplaneMap, below, controlMap, counterMap, decod
 use Rattle.reading.specs.Read.{answerFor, halfOf, lowFirst, readBy, readOf, settingWord, statusWord, wordIn}
 use Rattle.device.specs.State.{Machine, powerUp, withCounters, withGates, withRest, withState}
 use Rattle.tagging.specs.Tag.{commandOf, commanded, eventsOn, notedIn, rightKey, tagOf}
-use Rattle.ticking.specs.Tick.{badLevels, restTick, tickOf}
+use Rattle.ticking.specs.Tick.{restTick, tickOf}
+use Rattle.lines.specs.Lines.{badLevels}
 use Rattle.writing.specs.Write.{controlWrite, enableWrite, keyWrite, onCommon, onGates, reloadAnswer, reloadWrite, requested, resetBy, restWrite}
 use Rattle.writing.specs.Write.{triggers, withReload, writeAnswer, writeAt}
 use Rattle.registers.proofs.Whole.{full, step-called}

@@ -41,7 +41,7 @@ traced : (m : Machine) (t : List ℕ) (budget : ℕ) (p : Progress) (memory : Li
 traced m t budget p memory ran = ap machineOf (ran) ∙ run-is-list t budget m
 
 -- one after the other
-went : (m : Machine) (l : List Act) (n : Machine) → Went m l n → n ≡ from m (listFrom m l)
+pub went : (m : Machine) (l : List Act) (n : Machine) → Went m l n → n ≡ from m (listFrom m l)
 unfolding Went from listFrom
 went m [] n w = w
 went m (calling x ∷ l) n w =

@@ -18,7 +18,7 @@ use Rattle.counters.specs.declared.counter.Counter.{Counter}
 use Rattle.loader.specs.declared.loader.Loader.{Loader}
 use Rattle.counters.specs.Counter.{clearCounters, cleared, counter0, counterAt, counterTick, resetOn, tickCounters}
 use Rattle.gates.specs.Gate.{eachGate, gate0, gateStep, outputsOf, withMode, withPrepare, withPreparePulse, withRecover, withRecoverPulse, withTimeout}
-use Rattle.lines.specs.Lines.{risesOf}
+use Rattle.lines.specs.Lines.{badLevels, risesOf}
 use Rattle.loader.specs.Loader.{groupAt, takes, loadInto}
 use Rattle.loader.specs.Memory.{loaded, placeOf, replaced, wordAt}
 use Rattle.device.specs.declared.map.Register.{Register}
@@ -29,7 +29,7 @@ use Rattle.registers.specs.Calls.{Call, tick, write, tag, download, called, dow
 use Rattle.device.specs.Map.{decodeOf, kept}
 use Rattle.device.specs.State.{Machine, withRest, withState}
 use Rattle.tagging.specs.Tag.{commandOf, commanded, eventsOn, rightKey, tagOf}
-use Rattle.ticking.specs.Tick.{badLevels, tickOf}
+use Rattle.ticking.specs.Tick.{tickOf}
 use Rattle.writing.specs.Write.{controlWrite, resetBy, writeAt}
 use Rattle.registers.proofs.Whole.{accepted, step-called}
 use Rattle.sheet.specs.Lines.{Lines}

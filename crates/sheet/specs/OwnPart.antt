@@ -10,14 +10,13 @@ use lib.ListN.{getD, length}
 use Rattle.bools.specs.Pick.{pick}
 use Rattle.words.specs.Word.{maskedBits, nibble}
 use Rattle.lists.specs.Table.{tabulate}
-use Rattle.lines.specs.Lines.{gateCount, inputCount}
+use Rattle.lines.specs.Lines.{badLevels, gateCount, inputCount}
 use Rattle.loader.specs.Memory.{datasetWords}
 use Rattle.device.specs.declared.map.Register.{Register}
 use Rattle.device.specs.declared.map.Register.the-variants.{Nothing, Readout, Other, Control, Mode, Timeout, Key, Enable, Reload, Prepare, Recover, Input, Group, Word}
 use Rattle.registers.specs.Calls.{Call, tick, write, tag, download}
 use Rattle.device.specs.Map.{decodeOf}
 use Rattle.tagging.specs.Tag.{commandOf}
-use Rattle.ticking.specs.Tick.{badLevels}
 use Rattle.sheet.specs.Lines.{Lines, ownLines}
 
 -- the own part of one call

@@ -5,7 +5,7 @@ use mathlib.Core.List.{List, [], _∷_}
 use Rattle.bools.specs.Pick.{pick}
 use Rattle.words.specs.Word.{bit, bitOf}
 use Rattle.registers.specs.Calls.{Call, tick, write, tag, download}
-use Rattle.ticking.specs.Tick.{badLevels}
+use Rattle.lines.specs.Lines.{badLevels}
 
 -- an input's levels in the accepted ticks. Of the rest of a list only that is looked at whether a tick is refused: no write, no tag, no
 -- download, no level of another line that exists

@@ -15,7 +15,7 @@ use Rattle.device.specs.Answer.{isDone}
 use Rattle.registers.specs.Calls.{Call, tick, write, tag, download, step}
 use Rattle.device.specs.State.{Machine}
 use Rattle.tagging.specs.Tag.{commandOf, eventsOn, rightKey}
-use Rattle.ticking.specs.Tick.{badLevels}
+use Rattle.lines.specs.Lines.{badLevels}
 use Rattle.writing.specs.Write.{datasetIn, groupIn, requestAnswer, triggers}
 
 -- the request that a word asks for, where it is taken

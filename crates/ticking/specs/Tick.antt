@@ -1,14 +1,12 @@
 -- Document 01, "Threshold memory and loader": the order within a tick.
-use Prim.Native.Nat.{ℕ, _^_}
-use mathlib.Core.Bool.{Bool, _||_}
+use Prim.Native.Nat.{ℕ}
 use mathlib.Core.List.{List}
-use lib.Dec.{leb}
 use Rattle.bools.specs.Pick.{pick}
 use Rattle.gates.specs.declared.gate.Gate.{Gate}
 use Rattle.loader.specs.declared.loader.Loader.{Loader}
 use Rattle.counters.specs.Counter.{tickCounters}
 use Rattle.gates.specs.Gate.{gateStep, eachGate, outputsOf}
-use Rattle.lines.specs.Lines.{gateCount, inputCount, risesOf, stepPhases}
+use Rattle.lines.specs.Lines.{risesOf, stepPhases}
 use Rattle.lines.specs.Raw.{countRises}
 use Rattle.loader.specs.Loader.{loadInto, loaderStep, queueStep}
 use Rattle.watchdogs.specs.Watchdog.{stepWatchdogs}
@@ -17,10 +15,6 @@ use Rattle.device.specs.declared.state.Crate.{Crate}
 use Rattle.device.specs.declared.state.Events.{Events}
 use Rattle.device.specs.declared.state.Rest.{Rest}
 use Rattle.device.specs.State.{crateOf, commonOf, restOf, eventsOf}
-
--- cause 6: "level on input 54+ or gate 12+"
-unfoldable pub badLevels : ℕ → ℕ → Bool
-badLevels inputs gatelevels = leb (2 ^ inputCount) inputs || leb (2 ^ gateCount) gatelevels
 
 -- phases, queue and loader
 unfoldable pub commonTick : Common → Common

@@ -1,7 +1,7 @@
 // A tick of the crate, in document 01's order: phases, rises, gates, counters, watchdogs, loader.
 ghost use mathlib.Core.Path.{_≡_};
 ghost use lib.ListN.{length};
-ghost use Rattle.ticking.specs.Tick.{badLevels, commonTick, handledBy, restTick, tickOf};
+ghost use Rattle.ticking.specs.Tick.{commonTick, handledBy, restTick, tickOf};
 use device::Common;
 use device::Crate;
 use device::Events;
@@ -9,13 +9,6 @@ use device::Rest;
 use gates::GateBit;
 use gates::GateChange;
 use loader::Loader;
-
-// A level on input 54 or above, or on gate 12 or above.
-pub fn bad_levels(inputs: u64, gatelevels: u16) -> bool
-    ensures { λ r. ⌜ r ≡ badLevels inputs gatelevels ⌝ }
-{
-    bools::either(0x0040_0000_0000_0000 <= inputs, 0x1000 <= gatelevels)
-}
 
 // Phases, queue and loader.
 fn tick_common(mut cm: Common) -> Common

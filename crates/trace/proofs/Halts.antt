@@ -11,7 +11,7 @@ use Rattle.bools.proofs.Tests.{cases, pick-elim}
 use Rattle.loader.specs.Memory.{isWhole}
 use Rattle.registers.specs.Calls.{Call, tick, write, tag}
 use Rattle.device.specs.State.{Machine}
-use Rattle.ticking.specs.Tick.{badLevels}
+use Rattle.lines.specs.Lines.{badLevels}
 use Rattle.records.specs.declared.Record.{Record}
 use Rattle.records.specs.declared.Record.the-variants.{AtEnd, Malformed, Ticks, Write, Tag}
 use Rattle.records.specs.declared.Stop.{Stop}

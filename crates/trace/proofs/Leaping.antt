@@ -9,7 +9,8 @@ use lib.ListN.{length}
 use Rattle.device.specs.declared.state.Crate.{Crate}
 use Rattle.registers.specs.Calls.{Call, tick, called, from, step}
 use Rattle.device.specs.State.{Machine, machine}
-use Rattle.ticking.specs.Tick.{badLevels, tickOf}
+use Rattle.ticking.specs.Tick.{tickOf}
+use Rattle.lines.specs.Lines.{badLevels}
 use Rattle.leaps.specs.Leap.{Formed, leapOf, quiet, stretchOf, ticksOf}
 use Rattle.leaps.proofs.Theorems.{leap-is, stretch-le, stretch-quiet}
 use Rattle.trace.specs.Leaping.{SameEnd}

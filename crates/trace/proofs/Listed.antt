@@ -14,7 +14,7 @@ use Rattle.bools.proofs.Tests.{cases}
 use Rattle.loader.specs.Memory.{isWhole}
 use Rattle.registers.specs.Calls.{Call, tick, write, tag, acceptedTicks, answer, callAnswer, from, isRefused, refusals}
 use Rattle.device.specs.State.{Machine}
-use Rattle.ticking.specs.Tick.{badLevels}
+use Rattle.lines.specs.Lines.{badLevels}
 use Rattle.registers.proofs.Lists.{from-append, full-from, refusals-append, refusals-repeated, ticks-append, ticks-repeated}
 use Rattle.records.specs.declared.Record.{Record}
 use Rattle.records.specs.declared.Record.the-variants.{AtEnd, Malformed, Ticks, Write, Tag}

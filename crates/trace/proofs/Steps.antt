@@ -16,7 +16,7 @@ use Rattle.loader.specs.Memory.{isWhole}
 use Rattle.device.specs.declared.answer.Outcome.{Outcome}
 use Rattle.registers.specs.Calls.{Call, tick, write, tag, called, from, outcomeOf, step}
 use Rattle.device.specs.State.{Machine, machine}
-use Rattle.ticking.specs.Tick.{badLevels}
+use Rattle.lines.specs.Lines.{badLevels}
 use Rattle.records.specs.declared.Record.{Record}
 use Rattle.records.specs.declared.Record.the-variants.{AtEnd, Malformed, Ticks, Write, Tag}
 use Rattle.trace.specs.declared.Report.{Report}

@@ -7,7 +7,7 @@ use lib.ListN.{length}
 use Rattle.device.specs.declared.state.Crate.{Crate}
 use Rattle.registers.specs.Calls.{from, tick}
 use Rattle.device.specs.State.{machine}
-use Rattle.ticking.specs.Tick.{badLevels}
+use Rattle.lines.specs.Lines.{badLevels}
 use Rattle.trace.specs.Run.{repeated}
 
 -- k ticks from the one crate end where n do from the other, on every memory, unless they are refused

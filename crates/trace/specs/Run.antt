@@ -11,7 +11,7 @@ use Rattle.device.specs.declared.state.Crate.{Crate}
 use Rattle.loader.specs.Memory.{isWhole}
 use Rattle.registers.specs.Calls.{Call, tick, write, tag, from, isRefused}
 use Rattle.device.specs.State.{Machine, machine}
-use Rattle.ticking.specs.Tick.{badLevels}
+use Rattle.lines.specs.Lines.{badLevels}
 use Rattle.trace.specs.declared.Progress.{Progress}
 use Rattle.records.specs.declared.Record.{Record}
 use Rattle.records.specs.declared.Record.the-variants.{AtEnd, Malformed, Ticks, Write, Tag}

@@ -2,16 +2,13 @@
 ghost use mathlib.Core.Bool.{true, false, not};
 ghost use mathlib.Core.Path.{_≡_};
 ghost use Prim.Native.Nat.{_+_, _-_, _^_, _<_, _≤_};
-ghost use lib.ListN.{length};
 ghost use Rattle.words.specs.Word.{bitOf};
 ghost use Rattle.device.specs.Answer.{isDone};
 ghost use Rattle.registers.specs.Calls.{from};
 ghost use Rattle.registers.specs.Calls.{tick as Call·tick, write as Call·write, tag as Call·tag};
 ghost use Rattle.device.specs.State.{machine};
-ghost use Rattle.ticking.specs.Tick.{badLevels};
 ghost use Rattle.trace.specs.Leaping.{SameEnd};
-ghost use Rattle.records.specs.Records.{nextAt};
-ghost use Rattle.trace.specs.Run.{callIn, machineOf, onceOf, passed, progressOf, repeated, runOf, stopped, ticksIn};
+ghost use Rattle.trace.specs.Run.{callIn, onceOf, passed, progressOf, repeated, runOf, stopped, ticksIn};
 ghost use Rattle.trace.specs.Run.{run as Run·run};
 ghost use Rattle.trace.specs.Sound.{Room, Sound};
 use crate::Progress;
@@ -118,7 +115,7 @@ fn tick_on(state: Crate, mem: &[u16], n: u64, inputs: u64, gates: u16) -> Crate
     if mem.len() != 16384 {
         return state;
     }
-    if ticking::bad_levels(inputs, gates) {
+    if lines::bad_levels(inputs, gates) {
         return state;
     }
     let mut on = state;
@@ -155,7 +152,7 @@ fn run_ticks(
     requires { ⌜ Room (now t) (p .report) × (p .report .ticks ≤ budget) ⌝ }
     ensures { λ r. ⌜ Run·run r (now (mem .entry)) ≡ ticksIn (now (t .entry)) budget (Run·run p (now (mem .entry))) n inputs gates ⌝ }
 {
-    let refused = ticking::bad_levels(inputs, gates);
+    let refused = lines::bad_levels(inputs, gates);
     // levels come before the budget: a record that they refuse is passed
     if bools::without(budget - p.report.ticks < n, refused) {
         return stop_by(p, Stop::Spent);

@@ -9,7 +9,7 @@ use lib.Dec.{ltb}
 use Rattle.bools.proofs.Tests.{and-left, and-right}
 use Rattle.registers.specs.Calls.{from}
 use Rattle.device.specs.State.{Machine, machine}
-use Rattle.ticking.specs.Tick.{badLevels}
+use Rattle.lines.specs.Lines.{badLevels}
 use Rattle.trace.specs.Run.{passed, passes, runOn, ticksIn}
 use Rattle.trace.proofs.Steps.{tick-refused}
 use Rattle.trace.proofs.running.run_ticks.Statement.{statement}

@@ -1,8 +1,8 @@
 -- `bad_levels` meets its contract.
 use borrow.Author.Needs.{needs}
-use Rattle.ticking.specs.Tick.{badLevels}
-use Rattle.ticking.proofs.ticking.bad_levels.Statement.{statement}
-use Rattle.ticking.proofs.ticking.bad_levels.Tie as tie
+use Rattle.lines.specs.Lines.{badLevels}
+use Rattle.lines.proofs.levels.bad_levels.Statement.{statement}
+use Rattle.lines.proofs.levels.bad_levels.Tie as tie
 
 returns : tie.Need-returns
 unfolding badLevels

@@ -5,8 +5,8 @@ use mathlib.Core.Path.{_≡_, refl, sym, _∙_}
 use borrow.Author.Needs.{needs}
 use lib.ListN.{length}
 use lib.Seq.{length-take-le}
-use Rattle.rehearse.proofs.read_input.Statement.{statement}
-use Rattle.rehearse.proofs.read_input.Tie as tie
+use Rattle.standard_input.proofs.read_input.Statement.{statement}
+use Rattle.standard_input.proofs.read_input.Tie as tie
 
 abbrev Inv-loop : tie.InvT-loop
 Inv-loop buf₀ done₀ buf done = (length buf ≡ length buf₀) × (done ≤ length buf)

@@ -1,0 +1,11 @@
+pub mod Causes
+pub mod Done
+pub mod Fewest
+pub mod Levels
+pub mod Lossless
+pub mod Nines
+pub mod ReadBack
+pub mod Scan
+pub mod Theorems
+pub mod Worked
+pub mod Written

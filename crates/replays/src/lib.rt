@@ -1,0 +1,1 @@
+// What the run of a converted capture does: definitions and proofs, no function.

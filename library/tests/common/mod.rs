@@ -1,0 +1,12 @@
+//! What the comparisons with the reference model share.
+
+/// How many random traces or captures: `NAME=n` in the environment sets another number.
+pub fn number_of(name: &str, number: u64) -> u64 {
+    std::env::var(name).ok().and_then(|n| n.parse().ok()).unwrap_or(number)
+}
+
+/// Compares seed after seed and tells all differences at the end.
+pub fn all_agree(seeds: u64, compare: impl Fn(u64) -> Result<(), String>) {
+    let differences: Vec<String> = (0..seeds).filter_map(|seed| compare(seed).err()).collect();
+    assert!(differences.is_empty(), "{} differences:\n{}", differences.len(), differences.join("\n"));
+}
