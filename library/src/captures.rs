@@ -64,8 +64,22 @@ impl Error for NotConverted {}
 /// the trace stay, and where the capture is refused the whole output stays. `TICK_BYTES` for each frame are always enough.
 pub fn convert(capture: &[u8], out: &mut [u8]) -> Result<usize, NotConverted> {
     let mut answer = [0; ANSWER_WORDS];
+    let number = convert_by_numbers(capture, out, &mut answer);
+    let [bytes, frame] = answer;
+    match number {
+        0 => Ok(bytes as usize),
+        NOT_FRAMES => Err(NotConverted::Ragged),
+        BAD_LEVEL => Err(NotConverted::Level { frame }),
+        NO_ROOM => Err(NotConverted::NoRoom),
+        other => unreachable!("a conversion never answers {other}"),
+    }
+}
+
+/// `mirvacula_convert` itself: an answer of any length can be lent.
+#[doc(hidden)]
+pub fn convert_by_numbers(capture: &[u8], out: &mut [u8], answer: &mut [u64]) -> u16 {
     // SAFETY: each pointer comes from a slice that is borrowed for the call, with its length; none of them overlap.
-    let number = unsafe {
+    unsafe {
         mirvacula_convert(
             capture.as_ptr(),
             capture.len(),
@@ -74,14 +88,6 @@ pub fn convert(capture: &[u8], out: &mut [u8]) -> Result<usize, NotConverted> {
             answer.as_mut_ptr(),
             answer.len(),
         )
-    };
-    let [bytes, frame] = answer;
-    match number {
-        0 => Ok(bytes as usize),
-        NOT_FRAMES => Err(NotConverted::Ragged),
-        BAD_LEVEL => Err(NotConverted::Level { frame }),
-        NO_ROOM => Err(NotConverted::NoRoom),
-        other => unreachable!("a conversion never answers {other}"),
     }
 }
 

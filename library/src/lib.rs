@@ -3,6 +3,8 @@
 
 mod captures;
 
+#[doc(hidden)]
+pub use captures::convert_by_numbers;
 pub use captures::{convert, trace_of, NotConverted, FRAME_BYTES, TICK_BYTES};
 
 pub const MEMORY_WORDS: usize = 16_384;

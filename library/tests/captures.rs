@@ -2,23 +2,12 @@
 mod common;
 
 use common::{all_agree, number_of};
-use mirvacula::{convert, run, trace_of, NotConverted, Rehearsal, Stop, MEMORY_WORDS};
+use mirvacula::{convert, convert_by_numbers, run, trace_of, NotConverted, Rehearsal, Stop, MEMORY_WORDS};
 use reference::capture::{converted, rendered, Refusal, Ticks};
 use reference::generator::{captures, Family};
 
 const CAPTURES: u64 = 20_000;
 const BAD_BUFFER: u16 = 255;
-
-extern "C" {
-    fn mirvacula_convert(
-        capture: *const u8,
-        capture_bytes: usize,
-        out: *mut u8,
-        out_bytes: usize,
-        answer: *mut u64,
-        answer_words: usize,
-    ) -> u16;
-}
 
 /// Bytes of which no neighbours are equal.
 fn pattern(length: usize) -> Vec<u8> {
@@ -111,17 +100,7 @@ fn a_trace_runs_as_its_frames_do() {
 /// The function's return, the output and the answer, all of them filled before.
 fn called(capture: &[u8], room: usize, answer_words: usize) -> (u16, Vec<u8>, Vec<u64>) {
     let (mut out, mut answer) = (pattern(room), vec![u64::MAX; answer_words]);
-    // SAFETY: each pointer comes from a slice that lives through the call, with its length; none of them overlap.
-    let number = unsafe {
-        mirvacula_convert(
-            capture.as_ptr(),
-            capture.len(),
-            out.as_mut_ptr(),
-            out.len(),
-            answer.as_mut_ptr(),
-            answer.len(),
-        )
-    };
+    let number = convert_by_numbers(capture, &mut out, &mut answer);
     (number, out, answer)
 }
 
