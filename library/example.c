@@ -1,6 +1,7 @@
 /*
- * Runs the trace on standard input with 1,000,000 ticks and prints its report and the six interlock outputs. With the
- * argument `capture` the input is a capture of the pulse recorder, of at most 1,000,000 frames, and its trace is run.
+ * Runs the trace on standard input with 1,000,000 ticks and prints its report and the six interlock outputs, with the
+ * selection words that each took to be known. With the argument `capture` the input is a capture of the pulse recorder,
+ * of at most 1,000,000 frames, and its trace is run.
  */
 #include <inttypes.h>
 #include <stdio.h>
@@ -17,6 +18,18 @@ static uint16_t image[MIRVACULA_IMAGE_WORDS];
 static uint8_t capture[BUDGET * MIRVACULA_FRAME_BYTES];
 static uint8_t trace[BUDGET * MIRVACULA_TICK_BYTES];
 
+/* Runs so many bytes of the trace once more, for the outputs. */
+static void scan(size_t bytes)
+{
+    uint64_t report[MIRVACULA_REPORT_WORDS];
+    uint16_t outputs[MIRVACULA_SCAN_WORDS];
+
+    mirvacula_scan(memory, MIRVACULA_MEMORY_WORDS, trace, bytes, BUDGET, report, MIRVACULA_REPORT_WORDS, outputs,
+                   MIRVACULA_SCAN_WORDS);
+    for (int o = 0; o < MIRVACULA_OUTPUTS; o++)
+        printf("output %d: %u, words read %u\n", o, (unsigned)outputs[o], (unsigned)outputs[MIRVACULA_OUTPUTS + o]);
+}
+
 /* Runs so many bytes of the trace. */
 static int run(size_t bytes)
 {
@@ -27,6 +40,7 @@ static int run(size_t bytes)
     printf("stop %u, next %" PRIu64 ", ticks %" PRIu64 ", records %" PRIu64 ", refused %" PRIu64 "\n", (unsigned)stop,
            report[1], report[2], report[3], report[4]);
     printf("outputs %02x\n", (unsigned)image[OUTPUTS - MIRVACULA_IMAGE_START]);
+    scan(bytes);
     return stop == MIRVACULA_END ? 0 : 1;
 }
 

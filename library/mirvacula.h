@@ -9,16 +9,18 @@
 #define MIRVACULA_REPORT_WORDS 5     /* stop, next offset, ticks, records passed, records refused */
 #define MIRVACULA_IMAGE_WORDS 5120   /* registers 0x0600 to 0x19FF in address order, 0 where a read is refused */
 #define MIRVACULA_IMAGE_START 0x0600
+#define MIRVACULA_OUTPUTS 6          /* interlock outputs */
+#define MIRVACULA_SCAN_WORDS 12      /* levels of outputs 0 to 5, then the selection words read of each */
 
 /* Why a run stopped. */
 #define MIRVACULA_END 0          /* end of the trace */
-#define MIRVACULA_BAD_MEMORY 1   /* memory not 16,384 words: the rest of the report and the image are 0, the memory is left */
+#define MIRVACULA_BAD_MEMORY 1   /* memory not 16,384 words: the rest of the report, and image or outputs, are 0; the memory is left */
 #define MIRVACULA_UNKNOWN_TAG 7
 #define MIRVACULA_WRONG_LENGTH 8
 #define MIRVACULA_CUT 9
 #define MIRVACULA_NO_REPEAT 10
 #define MIRVACULA_SPENT 254      /* a tick record exceeds the ticks left */
-#define MIRVACULA_BAD_BUFFER 255 /* report or image of the wrong length, and the memory as it should be: nothing is done */
+#define MIRVACULA_BAD_BUFFER 255 /* report, image or outputs of the wrong length, and the memory as it should be: nothing is done */
 
 #define MIRVACULA_FRAME_BYTES 9  /* frame of a capture: 7 bytes of inputs, 2 of gates, high bytes first */
 #define MIRVACULA_TICK_BYTES 14  /* tick record of a trace */
@@ -39,6 +41,16 @@
  */
 uint16_t mirvacula_run(uint16_t *memory, size_t memory_words, const uint8_t *trace, size_t trace_bytes, uint64_t budget,
                        uint64_t *report, size_t report_words, uint16_t *image, size_t image_words);
+
+/*
+ * Runs a trace as mirvacula_run does, and scans the six interlock outputs that the crate then has. outputs[o] is the level of
+ * output o, 0 or 1, as register 0x0719 has it; outputs[MIRVACULA_OUTPUTS + o] says how many of its 22 selection words were
+ * read: from the lowest address to the first by which those read make the level 0, and all where it is 1. Returns why the run
+ * stopped; report[0] says the same. Where report or outputs has the wrong length nothing is done, and it returns
+ * MIRVACULA_BAD_MEMORY or MIRVACULA_BAD_BUFFER. Lengths and pointers are as for mirvacula_run.
+ */
+uint16_t mirvacula_scan(uint16_t *memory, size_t memory_words, const uint8_t *trace, size_t trace_bytes, uint64_t budget,
+                        uint64_t *report, size_t report_words, uint16_t *outputs, size_t outputs_words);
 
 /*
  * Writes the trace of a capture of the pulse recorder from the start of out on. Equal neighbouring frames become one tick

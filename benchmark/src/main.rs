@@ -6,6 +6,7 @@
 mod before;
 mod captures;
 mod clock;
+mod scans;
 mod traces;
 
 use mirvacula::{Rehearsal, Report, Stop, MEMORY_WORDS};
@@ -147,10 +148,10 @@ fn row(trace: &Trace, report: &Report) -> String {
 }
 
 /// Runs the library once on each short trace and prints their ticks: for a count of instructions.
-fn once() -> ExitCode {
+fn once() -> Result<(), String> {
     let ticks: u64 = traces::short().iter().map(|trace| by_library(trace).report.ticks).sum();
     println!("{ticks}");
-    ExitCode::SUCCESS
+    Ok(())
 }
 
 /// Prints the table of the traces.
@@ -167,10 +168,14 @@ fn time_traces() -> Result<(), String> {
 }
 
 fn main() -> ExitCode {
-    if std::env::args().nth(1).as_deref() == Some("once") {
-        return once();
-    }
-    match time_traces().and_then(|()| captures::time()) {
+    let words: Vec<String> = std::env::args().skip(1).collect();
+    let words: Vec<&str> = words.iter().map(String::as_str).collect();
+    let done = match words[..] {
+        ["once"] => once(),
+        ["scan", name] => scans::once(name),
+        _ => time_traces().and_then(|()| captures::time()),
+    };
+    match done {
         Ok(()) => ExitCode::SUCCESS,
         Err(problem) => {
             eprintln!("{problem}");

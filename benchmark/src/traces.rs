@@ -8,6 +8,7 @@ const KEY: u16 = 0xB1A5;
 const DIRECT_GATES: u16 = 0x003F;
 const HELD_GATES: u16 = GATE_BITS & !DIRECT_GATES;
 const DATASETS: u16 = 4;
+const GROUND: u16 = 54;
 /// The loader needs 129 ticks for a request.
 const TICKS_A_REQUEST: u64 = 120;
 
@@ -24,6 +25,19 @@ pub fn all() -> [Trace; 5] {
 /// Ticks one by one and in long repeats, few enough to count their instructions.
 pub fn short() -> [Trace; 2] {
     [busy(30_000), repeat(10_000)]
+}
+
+/// All outputs select these words. Two signals exist, each at bit 0 of its word: counter 0 is below its negative
+/// threshold (the first word), gate 0 is low (the last).
+pub fn two_signals(selection: &[u16]) -> Trace {
+    let mut trace = Trace::new("SCAN");
+    trace.patch(0, GROUND, 0, 1);
+    trace.write(0x0802, GATE_BITS);
+    for output in 0..6 {
+        (0..).zip(selection).for_each(|(k, word)| trace.write(0x1100 + 0x20 * output + k, *word));
+    }
+    trace.tick(1, 1, GATE_BITS & !1);
+    trace
 }
 
 impl Trace {

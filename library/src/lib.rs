@@ -1,11 +1,15 @@
 //! Rehearses a patching of a beam loss counter crate: a trace is run from power-up, and its report and the registers
-//! that it leaves are handed back. A capture of the pulse recorder becomes such a trace.
+//! or the interlock outputs that it leaves are handed back. A capture of the pulse recorder becomes such a trace.
 
 mod captures;
+mod scans;
 
 #[doc(hidden)]
 pub use captures::convert_by_numbers;
 pub use captures::{convert, trace_of, NotConverted, FRAME_BYTES, TICK_BYTES};
+#[doc(hidden)]
+pub use scans::scan_by_numbers;
+pub use scans::{scan, Output, Scan, OUTPUTS};
 
 pub const MEMORY_WORDS: usize = 16_384;
 pub const IMAGE_START: u16 = 0x0600;
@@ -53,6 +57,19 @@ pub struct Report {
     /// Records passed, refused ones included.
     pub records: u64,
     pub refused: u64,
+}
+
+impl Report {
+    /// Of the stop that a run returns and the numbers that it fills in; the first of them is that stop again.
+    fn new(stop: u16, numbers: [u64; REPORT_WORDS]) -> Report {
+        let stop = match stop {
+            0 => Stop::End,
+            SPENT => Stop::Spent,
+            cause => Stop::Refused(cause),
+        };
+        let [_, next, ticks, records, refused] = numbers;
+        Report { stop, next, ticks, records, refused }
+    }
 }
 
 /// A report and the registers that the run leaves.
@@ -104,11 +121,5 @@ pub unsafe fn run_by(entry_point: EntryPoint, memory: &mut [u16], trace: &[u8], 
             image.len(),
         )
     };
-    let stop = match stop {
-        0 => Stop::End,
-        SPENT => Stop::Spent,
-        cause => Stop::Refused(cause),
-    };
-    let [_, next, ticks, records, refused] = report;
-    Rehearsal { report: Report { stop, next, ticks, records, refused }, image }
+    Rehearsal { report: Report::new(stop, report), image }
 }

@@ -1,40 +1,19 @@
 //! The library against the reference model, on random traces.
 mod common;
 
-use common::{all_agree, number_of};
+use common::{all_agree, expected, number_of};
 use mirvacula::{run, Rehearsal, Stop, IMAGE_START, MEMORY_WORDS};
 use reference::generator::{self, Family};
-use reference::trace::{self, from_power_up, Report as Expected};
+use reference::trace::{self, from_power_up};
 use reference::Crate;
 
-/// How many random traces: `TRACES=n` and, of long repeats, `REPEATS=n` set another number.
-fn traces(family: Family) -> u64 {
-    match family {
-        Family::Scenes => number_of("TRACES", 20_000),
-        Family::Repeats => number_of("REPEATS", 2_000),
-    }
-}
-
-fn same_stop(stop: Stop, expected: trace::Stop) -> bool {
-    match (stop, expected) {
-        (Stop::End, trace::Stop::End) | (Stop::Spent, trace::Stop::Spent) => true,
-        (Stop::Refused(cause), trace::Stop::Refused(number)) => cause == u16::from(number),
-        _ => false,
-    }
-}
-
 /// The library's run, held to the reference model's report, crate and memory.
-fn compare(bytes: &[u8], budget: u64, expected: &Expected, device: &Crate, words: &[u16]) -> Result<(), String> {
+fn compare(bytes: &[u8], budget: u64, report: trace::Report, device: &Crate, words: &[u16]) -> Result<(), String> {
     let mut memory = vec![0xAAAA; MEMORY_WORDS];
     let ours = run(&mut memory, bytes, budget);
-    let r = ours.report;
-    if !same_stop(r.stop, expected.stop) {
-        return Err(format!("stop {:?}, expected {:?}", r.stop, expected.stop));
-    }
-    let counts = [r.next, r.ticks, r.records, r.refused];
-    let wanted = [expected.next, expected.ticks, expected.records, expected.refused];
-    if counts != wanted {
-        return Err(format!("next, ticks, records, refused {counts:?}, expected {wanted:?}"));
+    let (is, wanted) = (ours.report, expected(report));
+    if is != wanted {
+        return Err(format!("{is:?}, expected {wanted:?}"));
     }
     let image = reference::image(device, words);
     if let Some(k) = ours.image().iter().zip(&image).position(|(is, wanted)| is != wanted) {
@@ -50,13 +29,13 @@ fn compare(bytes: &[u8], budget: u64, expected: &Expected, device: &Crate, words
 /// The reference model goes on from one look to the next; the library runs from power-up to each.
 fn compare_seed(family: Family, seed: u64) -> Result<(), String> {
     let (bytes, budget) = (family.trace(seed), family.budget(seed));
-    let (mut device, mut memory, mut expected) = from_power_up(&[], budget);
+    let (mut device, mut memory, mut report) = from_power_up(&[], budget);
     for look in family.looks(seed) {
-        let part = &bytes[expected.next as usize..look];
-        expected = expected.followed_by(trace::run(&mut device, &mut memory, part, budget - expected.ticks));
-        let compared = compare(&bytes[..look], budget, &expected, &device, &memory);
+        let part = &bytes[report.next as usize..look];
+        report = report.followed_by(trace::run(&mut device, &mut memory, part, budget - report.ticks));
+        let compared = compare(&bytes[..look], budget, report, &device, &memory);
         compared.map_err(|difference| format!("{family:?}, seed {seed}, {look} bytes: {difference}"))?;
-        if expected.stop != trace::Stop::End {
+        if report.stop != trace::Stop::End {
             break;
         }
     }
@@ -65,19 +44,19 @@ fn compare_seed(family: Family, seed: u64) -> Result<(), String> {
 
 #[test]
 fn random_traces_agree() {
-    all_agree(traces(Family::Scenes), |seed| compare_seed(Family::Scenes, seed));
+    all_agree(number_of("TRACES", 20_000), |seed| compare_seed(Family::Scenes, seed));
 }
 
 #[test]
 fn random_traces_of_long_repeats_agree() {
-    all_agree(traces(Family::Repeats), |seed| compare_seed(Family::Repeats, seed));
+    all_agree(number_of("REPEATS", 2_000), |seed| compare_seed(Family::Repeats, seed));
 }
 
 #[test]
 fn raw_counts_past_their_low_word_agree() {
     let (trace, budget) = generator::long_pulses();
-    let (device, memory, expected) = from_power_up(&trace, budget);
-    assert_eq!(compare(&trace, budget, &expected, &device, &memory), Ok(()));
+    let (device, memory, report) = from_power_up(&trace, budget);
+    assert_eq!(compare(&trace, budget, report, &device, &memory), Ok(()));
     let (rehearsal, _) = rehearse(MEMORY_WORDS, &trace, budget);
     let words = [0x1300, 0x1301, 0x133C, 0x133D, 0x136A, 0x136B].map(|address| rehearsal.register(address));
     assert_eq!(words, [32_770, 0, 1, 0, 4, 1].map(Some));

@@ -1,6 +1,7 @@
 //! Counts of what the generated traces reach.
 
 pub mod repeats;
+pub mod scans;
 
 use crate::counter::{down_selection, gate_selection, up_selection};
 use crate::generator::{Family, BLOCKS};

@@ -6,6 +6,7 @@
 
 pub mod captures;
 mod repeats;
+mod scans;
 
 use crate::model::bad_level;
 use crate::numbers::{GATE_BITS, INPUT_BITS};
@@ -51,6 +52,8 @@ pub enum Family {
     Scenes,
     /// Long repeats around what can happen within one.
     Repeats,
+    /// Signals and selections for the scan of the outputs at the end.
+    Scans,
 }
 
 /// The trace so far and what it has set up.
@@ -898,6 +901,7 @@ impl Family {
         match self {
             Family::Scenes => scenes(seed),
             Family::Repeats => repeats::trace(seed),
+            Family::Scans => scans::trace(seed),
         }
     }
 
@@ -930,7 +934,7 @@ impl Family {
     pub fn looks(self, seed: u64) -> Vec<usize> {
         let bytes = self.trace(seed);
         let mut looks = match self {
-            Family::Scenes => Vec::new(),
+            Family::Scenes | Family::Scans => Vec::new(),
             Family::Repeats => repeats::looks(seed, &bytes),
         };
         looks.push(bytes.len());

@@ -1,7 +1,7 @@
 //! Commands of the reference model.
 #![forbid(unsafe_code)]
 
-use reference::coverage::{repeats::RepeatCoverage, Coverage, Table};
+use reference::coverage::{repeats::RepeatCoverage, scans::ScanCoverage, Coverage, Table};
 use reference::generator::Family;
 use reference::image;
 use reference::trace::{from_power_up, rehearse, run_and_print, report_line, PROGRAM_BYTES};
@@ -17,7 +17,8 @@ reference budget SEED
 reference coverage FIRST COUNT
 reference store FIRST COUNT
 reference print FIRST COUNT
-reference repeats ...: any of the last five, for traces of long repeats";
+reference repeats ...: any of the last five, for traces of long repeats
+reference scans ...: the same, for traces that end in a crate worth a scan";
 
 fn main() -> ExitCode {
     let words: Vec<String> = std::env::args().skip(1).collect();
@@ -39,6 +40,7 @@ fn command(words: &[&str]) -> Result<ExitCode, String> {
             print(&run_and_print(&bytes, number(budget)?))?
         }
         ["repeats", words @ ..] => return of_family(Family::Repeats, words),
+        ["scans", words @ ..] => return of_family(Family::Scans, words),
         words => return of_family(Family::Scenes, words),
     }
     Ok(ExitCode::SUCCESS)
@@ -81,6 +83,7 @@ fn coverage(family: Family, first: u64, count: u64) -> Result<ExitCode, String> 
     match family {
         Family::Scenes => filled(Coverage::new(), first, count),
         Family::Repeats => filled(RepeatCoverage::new(), first, count),
+        Family::Scans => filled(ScanCoverage::new(), first, count),
     }
 }
 

@@ -56,7 +56,7 @@ struct GateOutputs {
 }
 
 /// Every call is lent the memory, and its length is looked at first.
-fn lent_wrongly(memory: &[u16]) -> bool {
+pub(crate) fn lent_wrongly(memory: &[u16]) -> bool {
     memory.len() != MEMORY_WORDS
 }
 

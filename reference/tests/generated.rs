@@ -1,11 +1,12 @@
 //! The generator: same seed, same bytes; its traces reach every class.
 
-use reference::coverage::{repeats::RepeatCoverage, Coverage, Table};
+use reference::coverage::{repeats::RepeatCoverage, scans::ScanCoverage, Coverage, Table};
 use reference::generator::Family;
 use reference::trace::{from_power_up, Stop, PROGRAM_BYTES};
 
 fn each_family(seeds: u64) -> impl Iterator<Item = (Family, u64)> {
-    [Family::Scenes, Family::Repeats].into_iter().flat_map(move |family| (0..seeds).map(move |seed| (family, seed)))
+    let families = [Family::Scenes, Family::Repeats, Family::Scans];
+    families.into_iter().flat_map(move |family| (0..seeds).map(move |seed| (family, seed)))
 }
 
 #[test]
@@ -61,4 +62,9 @@ fn three_thousand_seeds_reach_every_class() {
 #[test]
 fn a_thousand_seeds_of_long_repeats_reach_every_class() {
     reaches_every_class(RepeatCoverage::new(), 1000);
+}
+
+#[test]
+fn five_thousand_seeds_of_scans_reach_every_class() {
+    reaches_every_class(ScanCoverage::new(), 5000);
 }

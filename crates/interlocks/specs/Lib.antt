@@ -1,1 +1,3 @@
 pub mod Interlock
+pub mod Scan
+pub mod Together

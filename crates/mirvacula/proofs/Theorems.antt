@@ -1,4 +1,4 @@
--- The run of `mirvacula_run` is one of document 01's lists: so every theorem about lists holds of what it shows.
+-- The run of `mirvacula_run` and of `mirvacula_scan` is one of document 01's lists: so every theorem about lists holds of what they show.
 use Prim.Native.Nat.{ℕ}
 use mathlib.Core.Bool.{true}
 use mathlib.Core.List.{List}

@@ -1,12 +1,15 @@
--- What `mirvacula_run` gives programs in C and Rust: a trace run from power-up, its report and its register image as numbers.
+-- What `mirvacula_run` and `mirvacula_scan` give programs in C and Rust: a trace run from power-up, its report, and the register image or the
+-- scan of the crate that it leaves, as numbers.
 use Prim.Native.Nat.{ℕ, _+_}
 use mathlib.Core.Bool.{Bool, _&&_}
-use mathlib.Core.List.{List, [], _∷_}
+use mathlib.Core.List.{List, [], _∷_, _++_}
 use lib.Dec.{eqb}
 use lib.ListN.{length}
 use Rattle.bools.specs.Pick.{pick}
 use Rattle.lists.specs.Table.{tabulate}
 use Rattle.loader.specs.Memory.{isWhole}
+use Rattle.interlocks.specs.declared.scan.Scan.{Scan}
+use Rattle.interlocks.specs.Scan.{scanOf}
 use Rattle.registers.specs.Calls.{powered, poweredMemory}
 use Rattle.reading.specs.Read.{readOf}
 use Rattle.device.specs.State.{Machine, machine}
@@ -26,7 +29,7 @@ stopCode WrongLength = stopNumber WrongLength
 stopCode Cut = stopNumber Cut
 stopCode NoRepeat = stopNumber NoRepeat
 
--- nothing is done where a lent report, image or answer has the wrong length
+-- a lent report, image, scan or answer has the wrong length
 abbrev pub badBuffer : ℕ
 badBuffer = 255
 
@@ -47,29 +50,45 @@ imageWords = 0x1400
 unfoldable pub imageOf : Machine → List ℕ
 imageOf m = tabulate imageWords (λ k. readOf m (imageStart + k) .word)
 
--- what a call gives back, and what it leaves in the memory, the report and the image that it was lent
+abbrev pub scanWords : ℕ
+scanWords = 12
+
+-- the levels of outputs 0 to 5, then the numbers of words read of them
+abbrev pub scanNumbers : Scan → List ℕ
+scanNumbers x = x .levels ++ x .words
+
+-- what a call gives back, and what it leaves in the memory, the report and the words that it was lent
 pub record Exported : Type 0 where
   pub status : ℕ
   pub memory : List ℕ
   pub report : List ℕ
-  pub image : List ℕ
+  pub words : List ℕ
 
 abbrev pub exported : ℕ → List ℕ → List ℕ → List ℕ → Exported
-exported status memory report image = record { status = status; memory = memory; report = report; image = image }
+exported status memory report words = record { status = status; memory = memory; report = report; words = words }
 
 unfoldable pub runOn : List ℕ → List ℕ → ℕ → Run
 runOn memory t budget = runOf t budget (machine (powered memory .state) (poweredMemory memory))
 
-abbrev pub exportedBy : Run → Exported
-exportedBy r = exported (stopCode (r .progress .report .stop)) (r .memory) (reportOf (r .progress .report)) (imageOf (machineOf r))
+-- the words are what `shown` gives of the crate and memory that the run leaves
+abbrev pub exportedBy : (Machine → List ℕ) → Run → Exported
+exportedBy shown r =
+    exported (stopCode (r .progress .report .stop)) (r .memory) (reportOf (r .progress .report)) (shown (machineOf r))
 
-abbrev pub isFitting : List ℕ → List ℕ → Bool
-isFitting report image = eqb (length report) reportWords && eqb (length image) imageWords
+abbrev pub isFitting : ℕ → List ℕ → List ℕ → Bool
+isFitting size report words = eqb (length report) reportWords && eqb (length words) size
 
 -- "Every call on a crate is lent the memory, so 1 comes first"
 abbrev pub misfit : List ℕ → ℕ
 misfit memory = pick (isWhole memory) badBuffer (stopNumber Memory)
 
+-- nothing is done where the report or the words do not fit
+abbrev pub exportBy : ℕ → (Machine → List ℕ) → List ℕ → List ℕ → ℕ → List ℕ → List ℕ → Exported
+exportBy size shown memory t budget report words =
+    pick (isFitting size report words) (exportedBy shown (runOn memory t budget)) (exported (misfit memory) memory report words)
+
 unfoldable pub exportOf : List ℕ → List ℕ → ℕ → List ℕ → List ℕ → Exported
-exportOf memory t budget report image =
-    pick (isFitting report image) (exportedBy (runOn memory t budget)) (exported (misfit memory) memory report image)
+exportOf = exportBy imageWords imageOf
+
+unfoldable pub scanExportOf : List ℕ → List ℕ → ℕ → List ℕ → List ℕ → Exported
+scanExportOf = exportBy scanWords (λ m. scanNumbers (scanOf m))

@@ -1,15 +1,20 @@
-// The library for programs in C and Rust: a trace run from power-up, its report and its register image as numbers; a capture as a trace.
+// The library for programs in C and Rust: a trace run from power-up, its report and its register image or the scan of its outputs as
+// numbers; a capture as a trace.
+ghost use mathlib.Core.List.{_++_};
 ghost use mathlib.Core.Path.{_≡_};
 ghost use lib.Dec.{eqb};
-ghost use lib.ListN.{length};
+ghost use Prim.Native.Nat.{_<_};
+ghost use lib.ListN.{getD, length};
 ghost use Rattle.bools.specs.Pick.{pick};
 ghost use Rattle.device.specs.State.{machine};
 ghost use Rattle.mirvacula.specs.Converting.{answered, convertOf, unanswered};
-ghost use Rattle.mirvacula.specs.Exported.{badBuffer, exported, exportOf, imageOf, imageWords, reportOf, reportWords, runOn, stopCode};
+ghost use Rattle.mirvacula.specs.Exported.{badBuffer, exported, exportOf, imageOf, imageWords, scanNumbers, reportOf, reportWords, runOn};
+ghost use Rattle.mirvacula.specs.Exported.{scanExportOf, scanWords, stopCode};
 ghost use Rattle.records.specs.declared.Stop.the-variants.{Memory};
 ghost use Rattle.records.specs.Stops.{stopNumber};
 ghost use Rattle.trace.specs.Run.{run as Run·run};
 use device::Crate;
+use interlocks::Scan;
 use records::Stop;
 use trace::Progress;
 use trace::Report;
@@ -29,11 +34,20 @@ fn stop_code(stop: Stop) -> u16
     }
 }
 
+// The code of a report.
+fn report_code(report: Report) -> u16
+    ensures { λ r. ⌜ r ≡ stopCode (report .stop) ⌝ }
+{
+    let stop = report.stop;
+    stop_code(stop)
+}
+
 // The report as five numbers.
-fn put_report(out: &mut [u64], report: Report, code: u16)
-    requires { ⌜ (length (now out) ≡ reportWords) × (code ≡ stopCode (report .stop)) ⌝ }
+fn put_report(out: &mut [u64], report: Report)
+    requires { ⌜ length (now out) ≡ reportWords ⌝ }
     ensures { λ _. ⌜ now (out .exit) ≡ reportOf report ⌝ }
 {
+    let code = report_code(report);
     out[0] = code as u64;
     out[1] = report.next as u64;
     out[2] = report.ticks;
@@ -54,19 +68,45 @@ fn put_image(out: &mut [u16], state: Crate, mem: &[u16])
     }
 }
 
-// A report or an image of the wrong length; a memory of the wrong length comes first.
+// Number k of a scan: the six levels, then the six numbers of words read.
+fn scan_number(levels: [u16; 6], words: [u16; 6], k: usize) -> u16
+    requires { ⌜ k < scanWords ⌝ }
+    ensures { λ r. ⌜ r ≡ getD (levels ++ words) k 0 ⌝ }
+{
+    if k < 6 { levels[k] } else { words[k - 6] }
+}
+
+// The scan as twelve numbers.
+fn put_scan(out: &mut [u16], scan: Scan)
+    requires { ⌜ length (now out) ≡ scanWords ⌝ }
+    ensures { λ _. ⌜ now (out .exit) ≡ scanNumbers scan ⌝ }
+{
+    let levels = scan.levels;
+    let words = scan.words;
+    let mut k: usize = 0;
+    while k < 12 {
+        out[k] = scan_number(levels, words, k);
+        k += 1;
+    }
+}
+
+// A report, an image or a scan of the wrong length; a memory of the wrong length comes first.
 fn misfit_code(words: usize) -> u16
     ensures { λ r. ⌜ r ≡ pick (eqb words 16384) badBuffer (stopNumber Memory) ⌝ }
 {
     if words == 16384 { 255 } else { 1 }
 }
 
-fn run_from_power_up(mem: &mut [u16], bytes: &[u8], budget: u64) -> Progress
-    ensures { λ r. ⌜ Run·run r (now (mem .exit)) ≡ runOn (now (mem .entry)) (now (bytes .entry)) budget ⌝ }
+// Runs a trace from power-up and fills in its report.
+fn run_and_report(mem: &mut [u16], bytes: &[u8], budget: u64, report: &mut [u64]) -> Progress
+    requires { ⌜ length (now report) ≡ reportWords ⌝ }
+    ensures { λ r. ⌜ (Run·run r (now (mem .exit)) ≡ runOn (now (mem .entry)) (now (bytes .entry)) budget) × (now (report .exit) ≡ reportOf (r .report)) ⌝ }
 {
     let start = registers::power_up(mem);
     let first = start.state;
-    trace::run(first, mem, bytes, budget)
+    let end = trace::run(first, mem, bytes, budget);
+    put_report(report, end.report);
+    end
 }
 
 // Runs a trace from power-up on a lent memory with a budget of ticks. Nothing is done where the report is not of
@@ -84,13 +124,30 @@ pub extern "C" fn mirvacula_run(
     if !bools::both(report.len() == 5, image.len() == 0x1400) {
         return misfit_code(mem.len());
     }
-    let end = run_from_power_up(mem, bytes, budget);
-    let told = end.report;
-    let stop = told.stop;
-    let code = stop_code(stop);
-    put_report(report, told, code);
+    let end = run_and_report(mem, bytes, budget, report);
     put_image(image, end.state, mem);
-    code
+    report_code(end.report)
+}
+
+// Runs a trace as `mirvacula_run` does and scans the outputs of the crate that it leaves. Nothing is done where the report
+// is not of 5 numbers or the scan not of 12.
+#[no_mangle]
+pub extern "C" fn mirvacula_scan(
+    mem: &mut [u16],
+    bytes: &[u8],
+    budget: u64,
+    report: &mut [u64],
+    outputs: &mut [u16],
+) -> u16
+    ensures { λ r. ⌜ exported r (now (mem .exit)) (now (report .exit)) (now (outputs .exit)) ≡ scanExportOf (now (mem .entry)) (now (bytes .entry)) budget (now (report .entry)) (now (outputs .entry)) ⌝ }
+{
+    if !bools::both(report.len() == 5, outputs.len() == 12) {
+        return misfit_code(mem.len());
+    }
+    let end = run_and_report(mem, bytes, budget, report);
+    let scan = registers::scan(end.state, mem);
+    put_scan(outputs, scan);
+    report_code(end.report)
 }
 
 // An answer of the wrong length; a capture that is not of whole frames comes first.

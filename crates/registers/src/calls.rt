@@ -2,6 +2,7 @@
 ghost use mathlib.Core.Path.{_≡_};
 ghost use Rattle.registers.specs.Calls.{outcomeOf, step, powered, poweredMemory};
 ghost use Rattle.registers.specs.Calls.{tick as Call·tick, write as Call·write, tag as Call·tag, download as Call·download};
+ghost use Rattle.interlocks.specs.Scan.{scanOf};
 ghost use Rattle.reading.specs.Read.{readOf};
 ghost use Rattle.device.specs.State.{machine, common0, rest0, powerUp};
 use counters::Counter;
@@ -14,6 +15,7 @@ use device::Read;
 use device::Rest;
 use gates::Gate;
 use gates::GateState;
+use interlocks::Scan;
 use loader::Loader;
 use loader::Queue;
 use loader::Request;
@@ -139,6 +141,20 @@ pub fn read(state: Crate, mem: &[u16], address: u16) -> Read
     let answer = reading::answer_for(register);
     let word = reading::word_in(state, mem, register);
     Read { answer, word }
+}
+
+// A scan of the six outputs: levels and words read, all 0 where it is refused.
+pub fn scan(state: Crate, mem: &[u16]) -> Scan
+    ensures { λ r. ⌜ (r ≡ scanOf (machine state (now (mem .entry)))) × (now (mem .exit) ≡ now (mem .entry)) ⌝ }
+{
+    if mem.len() != 16384 {
+        return Scan {
+            answer: Answer::Memory,
+            levels: [0u16; 6],
+            words: [0u16; 6],
+        };
+    }
+    interlocks::scan_outputs(state)
 }
 
 // A write of a word to an address.

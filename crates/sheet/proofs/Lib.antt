@@ -10,5 +10,6 @@ pub mod Raw
 pub mod Reached
 pub mod ReadBack
 pub mod Returned
+pub mod Scans
 pub mod Squares
 pub mod Theorems

@@ -16,7 +16,7 @@ use Rattle.words.proofs.Fields.{bit-low}
 use Rattle.words.proofs.Gather.{pack-ext, pack-is}
 use Rattle.words.proofs.Packing.{bit-past}
 use Rattle.bools.proofs.Tests.{both, cases, pick-elim}
-use Rattle.lists.specs.Table.{each, tabulate}
+use Rattle.lists.specs.Table.{each}
 use Rattle.lists.proofs.Tables.{getD-each, length-each, length-tabulate}
 use Rattle.counters.specs.declared.counter.Counter.{Counter}
 use Rattle.gates.specs.declared.gate.Gate.{Gate}
@@ -40,8 +40,8 @@ use Rattle.device.specs.declared.state.Crate.{Crate}
 use Rattle.device.specs.declared.state.Rest.{Rest}
 use Rattle.device.specs.Answer.{isDone}
 use Rattle.registers.specs.Calls.{Call, tick, write, tag, download, after, answer, called, callAnswer, downloadAnswer, from, machine0, step}
-use Rattle.interlocks.specs.Interlock.{interlocks, lowGates, signals, trips, tripsBy}
-use Rattle.device.specs.Map.{backplaneMap, below, controlMap, counterMap, decodeOf, eventMap, kept, outputBlock, statusMap}
+use Rattle.interlocks.specs.Interlock.{interlocks, lowGates, outputCount, selected, signals, trips, tripsBy}
+use Rattle.device.specs.Map.{backplaneMap, below, controlMap, counterMap, decodeOf, eventMap, kept, outputBlock, outputWords, statusMap}
 use Rattle.reading.specs.Read.{answerFor, halfOf, lowFirst, readBy, readOf, settingWord, statusWord, wordIn}
 use Rattle.device.specs.State.{Machine, powerUp, withCounters, withGates, withRest, withState}
 use Rattle.tagging.specs.Tag.{commandOf, commanded, eventsOn, notedIn, rightKey, tagOf}
@@ -507,27 +507,29 @@ apart-kept r m = record {
 
 -- interlocks look at overflows, gate states, selections, watchdogs and gate levels
 
+-- the outputs, were these the signals
+abbrev outputsBy : Crate → (ℕ → ℕ) → ℕ
+outputsBy s present = pack outputCount (λ o. not (tripsBy (selected s o) present outputWords))
+
 outputs-counters : (s : Crate) (x : List Counter) → ((n : ℕ) → isUnder (counterAt x n) ≡ isUnder (counterAt (s .counters) n)) →
     ((n : ℕ) → isOver (counterAt x n) ≡ isOver (counterAt (s .counters) n)) → interlocks (withCounters s x) ≡ interlocks s
 unfolding interlocks trips signals overflowWord
 outputs-counters s x u o = λ i.
-    pack 6 (λ n.
-    not (tripsBy (s .rest .selections) (tabulate 22 (λ k.
+    outputsBy s (λ k.
     pick (ltb k 8) (pack 16 (λ b. u (16 * k + b) i))
     (pick (ltb k 16) (pack 16 (λ b. o (16 * (k - 8) + b) i))
     (pick (ltb k 17) (gateBits failed (s .gates))
-    (pick (ltb k 21) (watchdogWord errorOf (s .rest .watchdogs) (k - 17)) (lowGates s)))))) n 22))
+    (pick (ltb k 21) (watchdogWord errorOf (s .rest .watchdogs) (k - 17)) (lowGates s)))))
 
 outputs-gates : (s : Crate) (x : List Gate) → ((g : ℕ) → gateAt x g .state ≡ gateAt (s .gates) g .state) →
     interlocks (withGates s x) ≡ interlocks s
 unfolding interlocks trips signals gateBits
 outputs-gates s x e = λ i.
-    pack 6 (λ n.
-    not (tripsBy (s .rest .selections) (tabulate 22 (λ k.
+    outputsBy s (λ k.
     pick (ltb k 8) (overflowWord isUnder (s .counters) k)
     (pick (ltb k 16) (overflowWord isOver (s .counters) (k - 8))
     (pick (ltb k 17) (pack 12 (λ g. isError (e g i)))
-    (pick (ltb k 21) (watchdogWord errorOf (s .rest .watchdogs) (k - 17)) (lowGates s)))))) n 22))
+    (pick (ltb k 21) (watchdogWord errorOf (s .rest .watchdogs) (k - 17)) (lowGates s)))))
 
 -- one part is written
 

@@ -1,17 +1,21 @@
--- The theorems about lists of calls, of the code: a crate and memory that went through `power_up`, calls and trace runs, by the contracts
+-- The theorems about lists of calls, of the code: a crate and memory that went through `power_up`, calls, reads, scans and trace runs, by the contracts
 -- of those functions alone, are those of `after`. So each theorem holds of what the functions return.
 use Prim.Native.Nat.{ℕ, _+_, _*_, _/_, _≤_, _<_}
 use mathlib.Core.Bool.{true, false}
 use mathlib.Core.List.{List, [], _∷_, _++_}
 use mathlib.Core.Option.{some}
 use mathlib.Core.Path.{_≡_, sym, ap, subst, _∙_}
-use lib.ListN.{length}
+use lib.ListN.{getD, length}
+use Rattle.words.specs.Word.{bit, bitOf}
 use Rattle.loader.specs.declared.loader.Request.{Request}
 use Rattle.loader.specs.Memory.{isWhole}
 use Rattle.device.specs.declared.answer.Answer.the-variants.{Done}
 use Rattle.device.specs.declared.answer.Outcome.{Outcome}
 use Rattle.device.specs.declared.answer.Read.{Read}
 use Rattle.device.specs.Answer.{isDone}
+use Rattle.interlocks.specs.declared.scan.Scan.{Scan}
+use Rattle.interlocks.specs.Interlock.{trips}
+use Rattle.interlocks.specs.Scan.{scanOf}
 use Rattle.registers.specs.Calls.{Call, write, acceptedTicks, after, answer, from, leftByRefusal, machine0, powered, poweredMemory, refusals, step}
 use Rattle.device.specs.Map.{decodeOf, kept}
 use Rattle.reading.specs.Read.{lowFirst, readBy, readOf}
@@ -27,10 +31,10 @@ use Rattle.sheet.specs.OwnPart.{Part, ownPart, ownPartOf}
 use Rattle.sheet.specs.Raw.{rawCount}
 use Rattle.sheet.specs.Reachable.{OfWords, Reached}
 use Rattle.sheet.specs.Requests.{finished, requestMade, standAfter, waits}
-use Rattle.sheet.specs.Returned.{Act, calling, reading, tracing, Looked, Powered, Ran, Rehearsed, Returned, Went, listFrom, listOf}
+use Rattle.sheet.specs.Returned.{Act, calling, reading, scanning, tracing, Looked, Powered, Ran, Rehearsed, Returned, Scanned, Went, listFrom, listOf}
 use Rattle.sheet.specs.Sheet.{sheetAfter, sheetShows}
 use Rattle.sheet.specs.Shows.{shows}
-use Rattle.sheet.proofs.Theorems.{alike-cut, finishes, isolation, raw-reads, reachable, read-back, read-other, refused, run-halts, run-is-list, run-records, run-refusals, run-sound, run-stops, run-ticks}
+use Rattle.sheet.proofs.Theorems.{alike-cut, finishes, isolation, raw-reads, reachable, read-back, read-other, refused, run-halts, run-is-list, run-records, run-refusals, run-sound, run-stops, run-ticks, scan-least, scan-level}
 
 -- one call, one run
 stepped : (m : Machine) (x : Call) (r : Outcome) (memory : List ℕ) → Returned m x r memory → machine (r .state) memory ≡ step m x
@@ -48,6 +52,8 @@ went m (calling x ∷ l) n w =
     went (machine (w .0 .state) (w .1)) l n (w .3)
     ∙ ap (λ (k : Machine). from k (listFrom k l)) (stepped m x (w .0) (w .1) (w .2))
 went m (reading a ∷ l) n w =
+    went (machine (m .state) (w .1)) l n (w .3) ∙ ap (λ (memory : List ℕ). from (machine (m .state) memory) (listFrom (machine (m .state) memory) l)) (w .2 .1)
+went m (scanning ∷ l) n w =
     went (machine (m .state) (w .1)) l n (w .3) ∙ ap (λ (memory : List ℕ). from (machine (m .state) memory) (listFrom (machine (m .state) memory) l)) (w .2 .1)
 went m (tracing t budget ∷ l) n w =
     went (machine (w .0 .state) (w .1)) l n (w .3)
@@ -101,6 +107,10 @@ module _ (l : List Act) (n : Machine) (h : Rehearsed l n) where
       q ≡ readBy Done (lowFirst j (rawCount (j / 2) (listOf l)))
   code-raw-reads j b q memory look = code-read (0x1300 + j) q memory look ∙ raw-reads j b (listOf l)
 
+  -- what a scan after the list returns
+  pub code-scan : (q : Scan) (memory : List ℕ) → Scanned n q memory → q ≡ scanOf (after (listOf l))
+  code-scan q memory scan = scan .0 ∙ ap scanOf (rehearsed l n h)
+
   -- a write that `write` accepted, and a read after it
   pub code-read-back : (a w : ℕ) (r : Outcome) (memory : List ℕ) → Returned n (write a w) r memory → r .answer ≡ Done →
       (q : Read) (left : List ℕ) → Looked (machine (r .state) memory) a q left → q ≡ readBy Done (kept (decodeOf a) w)
@@ -137,6 +147,18 @@ pub code-refused : (m : Machine) (x : Call) (r : Outcome) (memory : List ℕ) �
     machine (r .state) memory ≡ leftByRefusal m x
 code-refused m x r memory back e =
     stepped m x r memory back ∙ refused m x (sym (ap (λ (o : Outcome). isDone (o .answer)) (back .0)) ∙ e)
+
+-- the levels of a scan are the bits of a read of 0x0719, for every crate and memory
+pub code-scan-level : (m : Machine) (q : Scan) (memory : List ℕ) → Scanned m q memory → (p : Read) (left : List ℕ) → Looked m 0x0719 p left →
+    (o : ℕ) → o < 6 → getD (q .levels) o 0 ≡ bitOf (bit (p .word) o)
+code-scan-level m q memory scan p left look o b =
+    ap (λ (r : Scan). getD (r .levels) o 0) (scan .0) ∙ scan-level m o b ∙ sym (ap (λ (r : Read). bitOf (bit (r .word) o)) (look .0))
+
+-- and no fewer of the first words than a scan read make an output 0
+pub code-scan-least : (m : Machine) (q : Scan) (memory : List ℕ) → Scanned m q memory → (o : ℕ) → o < 6 →
+    (w : ℕ) → w < getD (q .words) o 0 → trips (m .state) o w ≡ false
+code-scan-least m q memory scan o b w l =
+    scan-least m o b w (subst (λ (r : Scan). w < getD (r .words) o 0) (scan .0) l)
 
 -- a run hands back a report that has stopped, with the counts over the calls of the records that it passed, for every crate and memory
 module _ (m : Machine) (t : List ℕ) (budget : ℕ) (p : Progress) (memory : List ℕ) (ran : Ran m t budget p memory) where

@@ -5,13 +5,16 @@ use mathlib.Core.Bool.{Bool, true, false}
 use mathlib.Core.List.{List, _++_}
 use mathlib.Core.Option.{some}
 use mathlib.Core.Path.{_≡_, sym, ap, _∙_}
-use lib.ListN.{length}
+use lib.ListN.{getD, length}
+use Rattle.words.specs.Word.{bit, bitOf}
 use Rattle.loader.specs.declared.loader.Request.{Request}
 use Rattle.loader.specs.Memory.{isWhole}
 use Rattle.device.specs.declared.answer.Answer.the-variants.{Done}
 use Rattle.device.specs.Answer.{isDone}
 use Rattle.registers.specs.Calls.{Call, write, acceptedTicks, after, answer, from, leftByRefusal, refusals, step}
 use Rattle.device.specs.Map.{decodeOf, kept}
+use Rattle.interlocks.specs.Interlock.{trips}
+use Rattle.interlocks.specs.Scan.{scanOf}
 use Rattle.reading.specs.Read.{lowFirst, readBy, readOf}
 use Rattle.device.specs.State.{Machine}
 use Rattle.registers.proofs.Refused as refusing
@@ -33,6 +36,7 @@ use Rattle.sheet.proofs.Isolation as isolating
 use Rattle.sheet.proofs.Raw as counting
 use Rattle.sheet.proofs.ReadBack as reading
 use Rattle.sheet.proofs.Reached as reaching
+use Rattle.sheet.proofs.Scans as scanning
 
 -- Demand 3: after every list of calls, counter c shows in the crate what its one-counter sheet shows, fed with c's own part alone.
 pub isolation : (c : ℕ) → c < 128 → (l : List Call) → shows c (after l) ≡ sheetShows (sheetAfter c (ownPartOf c l))
@@ -95,6 +99,22 @@ pub raw-alike : (j : ℕ) → j < 108 → (l m : List Call) → levelsOf (j / 2)
     readOf (after l) (0x1300 + j) ≡ readOf (after m) (0x1300 + j)
 raw-alike j b l m e =
     raw-reads j b l ∙ ap (λ (levels : List Bool). readBy Done (lowFirst j (risesIn false levels % 2 ^ 32))) e ∙ sym (raw-reads j b m)
+
+-- Document 02, CR 3, for every crate and memory, so after every list: the level that a scan gives of output o is bit o of what a read of 0x0719
+-- gives; no fewer of its first selection words than those read make it 0; those read do, where it is 0 and the memory has 16,384 words; and
+-- all are read where it is 1.
+module _ (m : Machine) (o : ℕ) (h : o < 6) where
+  pub scan-level : getD (scanOf m .levels) o 0 ≡ bitOf (bit (readOf m 0x0719 .word) o)
+  scan-level = scanning.scan-level m o h
+
+  pub scan-least : (w : ℕ) → w < getD (scanOf m .words) o 0 → trips (m .state) o w ≡ false
+  scan-least = scanning.scan-least m o h
+
+  pub scan-ends : isWhole (m .memory) ≡ true → getD (scanOf m .levels) o 0 ≡ 0 → trips (m .state) o (getD (scanOf m .words) o 0) ≡ true
+  scan-ends = scanning.scan-ends m o h
+
+  pub scan-whole : getD (scanOf m .levels) o 0 ≡ 1 → getD (scanOf m .words) o 0 ≡ 22
+  scan-whole = scanning.scan-whole m o h
 
 -- A trace run stands for the calls of the records that it passes: it leaves the crate and memory that they leave, and its records, ticks and
 -- refusals are the counts over them.

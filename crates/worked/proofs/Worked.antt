@@ -1,5 +1,5 @@
 -- Worked cases of the definitions, section by section of document 01: gates, counters, registers, refusals, loader, watchdogs,
--- interlocks, traces; then the raw counts of document 02, request 1.
+-- interlocks, traces; then the raw counts and the scans of document 02, requests 1 and 3.
 use Prim.Native.Nat.{ℕ, zero, suc, _+_, _*_, _/_, _%_, _^_}
 use mathlib.Core.Bool.{Bool, true, false}
 use mathlib.Core.List.{List, [], _∷_, _++_}
@@ -20,7 +20,8 @@ use Rattle.device.specs.Answer.{numberOf}
 use Rattle.registers.specs.Calls.{Call, tick, write, tag, download, answer, after, step, machine0, powered, poweredMemory}
 use Rattle.device.specs.Map.{decodeOf, usedBits}
 use Rattle.reading.specs.Read.{lowFirst, readOf}
-use Rattle.device.specs.State.{common0, machine, powerUp}
+use Rattle.device.specs.State.{Machine, common0, machine, powerUp}
+use Rattle.interlocks.specs.Scan.{scanOf}
 use Rattle.writing.specs.Write.{writeAnswer}
 use Rattle.sheet.specs.Requests.{Stand, finished, standAfter, waits, works}
 use Rattle.trace.specs.declared.Report.{Report}
@@ -458,6 +459,65 @@ rawRows =
     ∷ row 0 (reads (tick 1 0x1000 ∷ []) 0x1300)
     ∷ row 1 (reads (tick 1 0 ∷ tick 0 0x1000 ∷ tick 1 0 ∷ []) 0x1300)
     ∷ row 0 (reads (counting 63 ++ often 5 (tick 0 1)) 0x136A)
+    ∷ []
+
+-- ---- scans
+
+-- what a scan after a list gives of output o, as one number: a hundred for level 1, and the words read
+abbrev pub scanOn : Machine → ℕ → ℕ
+scanOn m o = 100 * getD (scanOf m .levels) o 0 + getD (scanOf m .words) o 0
+
+abbrev pub scans : List Call → ℕ → ℕ
+scans l o = scanOn (after l) o
+
+-- counter n is negative
+abbrev pub under : ℕ → List Call
+under n = write (0x1000 + n) 0x0036 ∷ write 0x0802 1 ∷ tick 1 1 ∷ []
+
+-- the number of a scan on so many words of memory, and what it gives of output o
+abbrev pub scanRefused : ℕ → ℕ → ℕ
+scanRefused words o = 1000 * numberOf (scanOf (machine powerUp (replicate words 0)) .answer) + scanOn (machine powerUp (replicate words 0)) o
+
+unfoldable pub scanRows : List Row
+scanRows =
+    -- nothing is selected: all 22 words, level 1
+    row 122 (scans [] 0)
+    ∷ row 122 (scans [] 5)
+    -- the first word trips; a later word trips too; only the last word trips
+    ∷ row 1 (scans (under 0 ++ (write 0x1100 1 ∷ [])) 0)
+    ∷ row 1 (scans (under 0 ++ (write 0x1100 1 ∷ write 0x1115 2 ∷ [])) 0)
+    ∷ row 22 (scans (under 0 ++ (write 0x1115 2 ∷ [])) 0)
+    -- words of each kind of signal
+    ∷ row 8 (scans (under 127 ++ (write 0x1107 0x8000 ∷ [])) 0)
+    ∷ row 9 (scans (counting 0 ++ pulses 1 ++ (write 0x1108 1 ∷ [])) 0)
+    ∷ row 17 (scans (tick 0 0x0A00 ∷ write 0x1110 0x0200 ∷ []) 0)
+    ∷ row 18 (scans (write 0x0800 0 ∷ tick 0 0 ∷ write 0x1111 0x8000 ∷ []) 0)
+    ∷ row 21 (scans (write 0x0800 0 ∷ tick 0 0 ∷ write 0x1114 0x0020 ∷ []) 0)
+    -- a forwarded gate: low at power-up, high, and still high after a refused tick
+    ∷ row 22 (scans (write 0x1115 4 ∷ []) 0)
+    ∷ row 122 (scans (write 0x1115 4 ∷ tick 0 4 ∷ []) 0)
+    ∷ row 122 (scans (write 0x1115 4 ∷ tick 0 4 ∷ tick 0 0x1000 ∷ []) 0)
+    -- an earlier word selects what is absent; what is present is not selected; unused bits are dropped
+    ∷ row 17 (scans (tick 0 0x0A00 ∷ write 0x1100 1 ∷ write 0x1110 0x0200 ∷ []) 0)
+    ∷ row 122 (scans (under 0 ++ (write 0x1100 2 ∷ [])) 0)
+    ∷ row 122 (scans (tick 0 0 ∷ write 0x1115 0xF000 ∷ []) 0)
+    -- a counter that is under and over: the negative word is read first
+    ∷ row 1
+    (scans
+    (download 0 (0xFFFF ∷ 0xFFFF ∷ 1 ∷ 0 ∷ replicate 508 0) ∷ write 0x0A02 (triggered 0 0) ∷ often 2 (tick 0 0)
+    ++ (write 0x1100 1 ∷ write 0x1108 1 ∷ []))
+    0)
+    -- the words of another output do not count; output 5 has its own
+    ∷ row 122 (scans (under 0 ++ (write 0x1120 1 ∷ [])) 0)
+    ∷ row 1 (scans (under 0 ++ (write 0x1120 1 ∷ [])) 1)
+    ∷ row 22 (scans (write 0x11B5 1 ∷ []) 5)
+    -- overflows are not latched: RESET
+    ∷ row 122 (scans (under 0 ++ (write 0x1100 1 ∷ write 0x0801 1 ∷ [])) 0)
+    -- refused 1, with zeros, on memories that are too short and too long; taken on one of 16,384
+    ∷ row 1000 (scanRefused 0 0)
+    ∷ row 1000 (scanRefused 16383 5)
+    ∷ row 1000 (scanRefused 16385 5)
+    ∷ row 122 (scanRefused 16384 5)
     ∷ []
 
 unfoldable pub worked : List Row

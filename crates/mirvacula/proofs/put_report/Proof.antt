@@ -1,6 +1,6 @@
 -- `put_report` meets its contract: the five numbers are set one after the other (`Swept`).
 use native.Mathlib.Omega.{arith}
-use mathlib.Core.Path.{refl, sym, _∙_}
+use mathlib.Core.Path.{refl, sym}
 use borrow.Author.Needs.{needs}
 use lib.ListN.{length-set}
 use Rattle.lists.proofs.Sweep.{Swept, swept-all, swept-more, swept-none}
@@ -10,10 +10,10 @@ use Rattle.mirvacula.proofs.put_report.Tie as tie
 
 returns : tie.Need-returns
 returns c =
-    let a = c .args in
-    let xs = a .out .now in
-    let ys = reportOf (a .report) in
-    let s₁ : Swept ys xs 1 _ = swept-more 0 (swept-none ys xs (sym (c .pre .0))) (omega arith) (c .pre .1) in
+    let b = c .before .before in
+    let xs = b .args .out .now in
+    let ys = reportOf (b .args .report) in
+    let s₁ : Swept ys xs 1 _ = swept-more 0 (swept-none ys xs (sym (b .pre))) (omega arith) (c .report-code .ensures) in
     let s₂ : Swept ys xs 2 _ = swept-more 0 s₁ (omega arith) refl in
     let s₃ : Swept ys xs 3 _ = swept-more 0 s₂ (omega arith) refl in
     let s₄ : Swept ys xs 4 _ = swept-more 0 s₃ (omega arith) refl in
@@ -24,6 +24,8 @@ pub put-report-spec : {M : Type 1} → statement M
 put-report-spec =
     tie.close
     (tie.spec
+    (λ c κs. search needs)
+    (λ c. search needs)
     (λ c. search needs)
     (λ c. search needs)
     (λ c. search needs)

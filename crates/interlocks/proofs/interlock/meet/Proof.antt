@@ -1,9 +1,0 @@
--- `meet` meets its contract, by `meets-is`.
-use mathlib.Core.Path.{sym}
-use borrow.Author.Needs.{needs}
-use Rattle.interlocks.proofs.Meeting.{meets-is}
-use Rattle.interlocks.proofs.interlock.meet.Statement.{statement}
-use Rattle.interlocks.proofs.interlock.meet.Tie as tie
-
-pub meet-spec : {M : Type 1} → statement M
-meet-spec = tie.close (tie.spec (λ c. sym (meets-is (c .args .selected) (c .args .present) (search needs) (search needs))))
