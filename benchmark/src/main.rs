@@ -1,6 +1,6 @@
 //! Times the library, the reference model and the crate in place on the same traces, in turn, and compares what they
 //! give. With the feature `before` the library of an earlier revision is among them. Then it times conversions of
-//! captures.
+//! captures. With an argument it runs one thing once, for a count of instructions.
 
 #[cfg(feature = "before")]
 mod before;
@@ -173,7 +173,11 @@ fn main() -> ExitCode {
     let done = match words[..] {
         ["once"] => once(),
         ["scan", name] => scans::once(name),
-        _ => time_traces().and_then(|()| captures::time()),
+        ["image", name] => scans::image(name, by_library),
+        #[cfg(feature = "before")]
+        ["image-before", name] => scans::image(name, by_library_before),
+        [] => time_traces().and_then(|()| captures::time()),
+        _ => Err(format!("no such run: {}", words.join(" "))),
     };
     match done {
         Ok(()) => ExitCode::SUCCESS,

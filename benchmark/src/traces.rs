@@ -1,7 +1,8 @@
 //! The traces to be timed, built from fixed seeds.
 
 use reference::generator::Dice;
-use reference::numbers::{COUNTERS, GATE_BITS, INPUT_BITS};
+use reference::map::SELECTION_WORDS;
+use reference::numbers::{COUNTERS, GATE_BITS, INPUT_BITS, OUTPUTS};
 
 const KEY: u16 = 0xB1A5;
 /// Gates 0 to 5 work in DIRECT, gates 6 to 11 are opened by a prepare and held high.
@@ -11,6 +12,9 @@ const DATASETS: u16 = 4;
 const GROUND: u16 = 54;
 /// The loader needs 129 ticks for a request.
 const TICKS_A_REQUEST: u64 = 120;
+
+/// The selection words of an output.
+pub type Words = [u16; SELECTION_WORDS];
 
 pub struct Trace {
     pub name: &'static str,
@@ -27,14 +31,14 @@ pub fn short() -> [Trace; 2] {
     [busy(30_000), repeat(10_000)]
 }
 
-/// All outputs select these words. Two signals exist, each at bit 0 of its word: counter 0 is below its negative
+/// Each output selects its words. Two signals exist, each at bit 0 of its word: counter 0 is below its negative
 /// threshold (the first word), gate 0 is low (the last).
-pub fn two_signals(selection: &[u16]) -> Trace {
+pub fn two_signals(selections: &[Words; OUTPUTS]) -> Trace {
     let mut trace = Trace::new("SCAN");
     trace.patch(0, GROUND, 0, 1);
     trace.write(0x0802, GATE_BITS);
-    for output in 0..6 {
-        (0..).zip(selection).for_each(|(k, word)| trace.write(0x1100 + 0x20 * output + k, *word));
+    for (output, words) in (0..).zip(selections) {
+        (0..).zip(words).for_each(|(k, word)| trace.write(0x1100 + 0x20 * output + k, *word));
     }
     trace.tick(1, 1, GATE_BITS & !1);
     trace

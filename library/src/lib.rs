@@ -31,7 +31,7 @@ extern "C" {
     ) -> u16;
 }
 
-/// `mirvacula_run`, or the same function of another archive.
+/// `mirvacula_run`, the same function of another archive, or `mirvacula_scan`.
 #[doc(hidden)]
 pub type EntryPoint =
     unsafe extern "C" fn(*mut u16, usize, *const u8, usize, u64, *mut u64, usize, *mut u16, usize) -> u16;
@@ -102,13 +102,31 @@ pub fn run(memory: &mut [u16], trace: &[u8], budget: u64) -> Rehearsal {
 ///
 /// # Safety
 ///
-/// The function has to be what mirvacula.h says.
+/// The function has to be what mirvacula.h says of `mirvacula_run`.
 #[doc(hidden)]
 pub unsafe fn run_by(entry_point: EntryPoint, memory: &mut [u16], trace: &[u8], budget: u64) -> Rehearsal {
     let mut report = [0; REPORT_WORDS];
     let mut image = vec![0; IMAGE_WORDS];
+    // SAFETY: the caller's promise.
+    let stop = unsafe { call(entry_point, memory, trace, budget, &mut report, &mut image) };
+    Rehearsal { report: Report::new(stop, report), image }
+}
+
+/// Lends slices to a function of an archive: `shown` is the image, or the outputs. Report and `shown` may be of any length.
+///
+/// # Safety
+///
+/// The function has to be what mirvacula.h says.
+unsafe fn call(
+    entry_point: EntryPoint,
+    memory: &mut [u16],
+    trace: &[u8],
+    budget: u64,
+    report: &mut [u64],
+    shown: &mut [u16],
+) -> u16 {
     // SAFETY: each pointer comes from a slice that is borrowed for the call, with its length; none of them overlap.
-    let stop = unsafe {
+    unsafe {
         entry_point(
             memory.as_mut_ptr(),
             memory.len(),
@@ -117,9 +135,8 @@ pub unsafe fn run_by(entry_point: EntryPoint, memory: &mut [u16], trace: &[u8], 
             budget,
             report.as_mut_ptr(),
             report.len(),
-            image.as_mut_ptr(),
-            image.len(),
+            shown.as_mut_ptr(),
+            shown.len(),
         )
-    };
-    Rehearsal { report: Report::new(stop, report), image }
+    }
 }

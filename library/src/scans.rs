@@ -1,6 +1,6 @@
 //! The six interlock outputs of the crate that a run leaves, and how far their selections had to be read.
 
-use crate::{Report, REPORT_WORDS};
+use crate::{call, Report, REPORT_WORDS};
 
 /// Interlock outputs.
 pub const OUTPUTS: usize = 6;
@@ -23,9 +23,9 @@ extern "C" {
 /// What the scan of an interlock output gives.
 #[derive(Clone, Copy, Debug, PartialEq, Eq)]
 pub struct Output {
-    /// Low where a selected signal exists.
+    /// `false` where a selected signal exists.
     pub level: bool,
-    /// Selection words read, from the lowest address to the first by which those read make it low; all 22 where it is high.
+    /// Selection words read, from the lowest address to the first by which those read make the level 0; all 22 where it is 1.
     pub words: u16,
 }
 
@@ -33,7 +33,7 @@ pub struct Output {
 #[derive(Clone, Copy, Debug, PartialEq, Eq)]
 pub struct Scan {
     pub report: Report,
-    /// All low with no words read where the memory is not of 16,384 words.
+    /// All at level 0 with no words read where the memory is not of 16,384 words.
     pub outputs: [Output; OUTPUTS],
 }
 
@@ -52,18 +52,6 @@ pub fn scan(memory: &mut [u16], trace: &[u8], budget: u64) -> Scan {
 /// `mirvacula_scan` itself: a report and outputs of any length can be lent.
 #[doc(hidden)]
 pub fn scan_by_numbers(memory: &mut [u16], trace: &[u8], budget: u64, report: &mut [u64], outputs: &mut [u16]) -> u16 {
-    // SAFETY: each pointer comes from a slice that is borrowed for the call, with its length; none of them overlap.
-    unsafe {
-        mirvacula_scan(
-            memory.as_mut_ptr(),
-            memory.len(),
-            trace.as_ptr(),
-            trace.len(),
-            budget,
-            report.as_mut_ptr(),
-            report.len(),
-            outputs.as_mut_ptr(),
-            outputs.len(),
-        )
-    }
+    // SAFETY: the archive's function is what mirvacula.h says.
+    unsafe { call(mirvacula_scan, memory, trace, budget, report, outputs) }
 }

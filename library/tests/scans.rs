@@ -47,8 +47,8 @@ fn random_scans_agree() {
 
 #[test]
 fn scans_of_other_random_traces_agree() {
-    all_agree(number_of("SCANS", SCANS) / 10, |seed| compare_seed(Family::Scenes, seed));
-    all_agree(number_of("SCANS", SCANS) / 100, |seed| compare_seed(Family::Repeats, seed));
+    all_agree((number_of("SCANS", SCANS) / 10).max(1), |seed| compare_seed(Family::Scenes, seed));
+    all_agree((number_of("SCANS", SCANS) / 100).max(1), |seed| compare_seed(Family::Repeats, seed));
 }
 
 /// The same report and memory as a run, and the levels that 0x0719 has.
@@ -66,7 +66,7 @@ fn run_and_scan(seed: u64) -> Result<(), String> {
 
 #[test]
 fn a_scan_runs_as_a_run_does() {
-    all_agree(number_of("SCANS", SCANS) / 4, run_and_scan);
+    all_agree((number_of("SCANS", SCANS) / 4).max(1), run_and_scan);
 }
 
 #[test]

@@ -13,12 +13,15 @@ use Rattle.bools.proofs.Tests.{cases}
 use Rattle.words.proofs.Packing.{bit-zero}
 use Rattle.lists.specs.Table.{any, each, least, tabulate}
 use Rattle.lists.proofs.Tables.{any-each, any-fewer, any-found, any-none, getD-tabulate, least-at, least-is, tabulate-ext}
+use Rattle.counters.specs.declared.counter.Counter.{Counter}
 use Rattle.counters.specs.Counter.{isOut, overflowWord}
+use Rattle.gates.specs.Gate.{failed, gateBits}
 use Rattle.device.specs.declared.state.Crate.{Crate}
+use Rattle.device.specs.declared.state.Rest.{Rest}
 use Rattle.device.specs.Map.{outputWords}
-use Rattle.interlocks.specs.Interlock.{interlock, meets, outputCount, selected, signals, trips, tripsBy}
+use Rattle.interlocks.specs.Interlock.{interlock, meets, otherSignals, outputCount, selected, signals, trips, tripsBy}
 use Rattle.interlocks.specs.Scan.{wordsRead}
-use Rattle.interlocks.specs.Together.{afterWords, anyWants, endedAt, wants}
+use Rattle.interlocks.specs.Together.{afterWords, anyWants, endedBy, signalsBy, wants}
 
 -- the first of n tests that holds, counted from 1; 0 where none does
 unfoldable pub first : (ℕ → Bool) → ℕ → ℕ
@@ -56,25 +59,12 @@ first-is n f =
     (λ e. first-none n f e ∙ rw e)
 
 -- selection word k of output o finds a signal
-abbrev finds : Crate → ℕ → ℕ → Bool
-finds s o k = meets (selected s o k) (signals s k)
+abbrev finds : List ℕ → (ℕ → ℕ) → ℕ → ℕ → Bool
+finds selections present o k = meets (selected selections o k) (present k)
 
 -- what is kept of the outputs after k words of each
-abbrev pub endedAfter : Crate → ℕ → List ℕ
-endedAfter s k = tabulate outputCount (λ o. first (finds s o) k)
-
-pub ended-none : (s : Crate) → tabulate outputCount (λ o. 0) ≡ endedAfter s 0
-unfolding first
-ended-none s = refl
-
-pub ended-all : (s : Crate) → endedAfter s outputWords ≡ tabulate outputCount (endedAt s)
-unfolding trips tripsBy wordsRead
-ended-all s = tabulate-ext outputCount _ _ (λ o h. first-is outputWords (finds s o))
-
--- word k of each is read
-pub ended-more : (s : Crate) (k : ℕ) → afterWords (s .rest .selections) (signals s k) k (endedAfter s k) ≡ endedAfter s (k + 1)
-unfolding afterWords each first
-ended-more s k = rw add-one (tabulate-ext outputCount _ _ (λ o h. rw (getD-tabulate outputCount (λ o. first (finds s o) k) o 0 h)))
+abbrev pub endedAfter : List ℕ → (ℕ → ℕ) → ℕ → List ℕ
+endedAfter selections present k = tabulate outputCount (λ o. first (finds selections present o) k)
 
 meets-none : (present : ℕ) → meets 0 present ≡ false
 meets-none present = any-none 16 _ (λ b h. rw (bit-zero b))
@@ -88,26 +78,68 @@ unwanted w chosen present e =
     (λ y. absurd (true≢false (rw (z, y) at e))))
     (λ z. rw z)
 
--- no output that is still 1 selects something in word k
-pub ended-unwanted : (s : Crate) (k : ℕ) → anyWants (endedAfter s k) (s .rest .selections) k ≡ false → endedAfter s k ≡ endedAfter s (k + 1)
-unfolding first anyWants
-ended-unwanted s k e =
-    rw add-one
-    (tabulate-ext outputCount _ _ (λ o h.
-    let none = rw (getD-tabulate outputCount (λ n. first (finds s n) k) o 0 h) at (any-each outputCount _ o e h) in
-    rw (unwanted (first (finds s o) k) (selected s o k) (signals s k) none)))
+module _ (selections : List ℕ) (present : ℕ → ℕ) where
+  pub ended-none : tabulate outputCount (λ o. 0) ≡ endedAfter selections present 0
+  unfolding first
+  ended-none = refl
+
+  pub ended-all : endedAfter selections present outputWords ≡ tabulate outputCount (endedBy selections present)
+  unfolding tripsBy
+  ended-all = tabulate-ext outputCount _ _ (λ o h. first-is outputWords (finds selections present o))
+
+  -- word k of each is read
+  pub ended-more : (k : ℕ) → afterWords selections (present k) k (endedAfter selections present k) ≡ endedAfter selections present (k + 1)
+  unfolding afterWords each first
+  ended-more k =
+      rw add-one (tabulate-ext outputCount _ _ (λ o h. rw (getD-tabulate outputCount (λ n. first (finds selections present n) k) o 0 h)))
+
+  -- no output that is still 1 selects something in word k
+  pub ended-unwanted : (k : ℕ) → anyWants (endedAfter selections present k) selections k ≡ false →
+      endedAfter selections present k ≡ endedAfter selections present (k + 1)
+  unfolding first anyWants
+  ended-unwanted k e =
+      rw add-one
+      (tabulate-ext outputCount _ _ (λ o h.
+      let none = rw (getD-tabulate outputCount (λ n. first (finds selections present n) k) o 0 h) at (any-each outputCount _ o e h) in
+      rw (unwanted (first (finds selections present o) k) (selected selections o k) (present k) none)))
+
+-- ---- the signals, from the parts of a crate
+
+module _ (counters : List Counter) (errors : ℕ) (rest : Rest) (k : ℕ) where
+  pub overflow-by : k < 16 → overflowWord (isOut (ltb 7 k)) counters (k % 8) ≡ signalsBy counters errors rest k
+  unfolding signalsBy
+  overflow-by h = rw (lt-ltb k 16 h)
+
+  pub other-by : 16 ≤ k → otherSignals errors rest k ≡ signalsBy counters errors rest k
+  unfolding signalsBy
+  other-by h = rw (le-ltb k 16 h)
 
 -- the first sixteen words are the overflows, negative ones before positive ones
-pub overflow-signals : (s : Crate) (k : ℕ) → k < 16 → overflowWord (isOut (ltb 7 k)) (s .counters) (k % 8) ≡ signals s k
-unfolding signals
-overflow-signals s k h =
+signals-by : (s : Crate) (k : ℕ) → signalsBy (s .counters) (gateBits failed (s .gates)) (s .rest) k ≡ signals s k
+unfolding signals signalsBy
+signals-by s k =
     cases (ltb k 8)
     (λ e.
     let l : k < 8 = ltb-true k 8 e in
-    let m : k % 8 ≡ k = omega arith in rw (e, le-ltb 7 k (omega arith), m))
+    let m : k % 8 ≡ k = omega arith in rw (e, lt-ltb k 16 (omega arith), le-ltb 7 k (omega arith), m))
     (λ e.
     let l : 8 ≤ k = ltb-false k 8 e in
-    let m : k % 8 ≡ k - 8 = omega arith in rw (e, lt-ltb 7 k (omega arith), lt-ltb k 16 h, m))
+    cases (ltb k 16)
+    (λ f.
+    let h : k < 16 = ltb-true k 16 f in
+    let m : k % 8 ≡ k - 8 = omega arith in rw (e, f, lt-ltb 7 k (omega arith), m))
+    (λ f. rw (e, f)))
+
+-- where the scan of output o of a crate ended, and 0 while it is 1
+abbrev pub endedAt : Crate → ℕ → ℕ
+endedAt s o = pick (trips s o outputWords) (wordsRead s o) 0
+
+pub ended-is : (s : Crate) (errors : ℕ) → errors ≡ gateBits failed (s .gates) →
+    tabulate outputCount (endedBy (s .rest .selections) (signalsBy (s .counters) errors (s .rest))) ≡ tabulate outputCount (endedAt s)
+unfolding trips wordsRead
+ended-is s errors e =
+    (λ i. tabulate outputCount (endedBy (s .rest .selections) (signalsBy (s .counters) (e i) (s .rest))))
+    ∙ (λ i. tabulate outputCount (endedBy (s .rest .selections) (λ k. signals-by s k i)))
 
 -- ---- the level and the words read, from what is kept at the end
 
@@ -120,7 +152,7 @@ words-some s o e = false≢true (rw e at (least-at outputWords (trips s o) (rw e
 pub words-all : (s : Crate) (o : ℕ) → trips s o outputWords ≡ false → wordsRead s o ≡ outputWords
 unfolding wordsRead trips tripsBy
 words-all s o e =
-    least-is outputWords (trips s o) outputWords (omega arith) (λ i h. any-fewer outputWords i (finds s o) (omega arith) e) (λ h. absurd (lt-irrefl outputWords h))
+    least-is outputWords (trips s o) outputWords (omega arith) (λ i h. any-fewer outputWords i (finds (s .rest .selections) (signals s) o) (omega arith) e) (λ h. absurd (lt-irrefl outputWords h))
 
 pub ended-level : (s : Crate) (o : ℕ) → eqb (endedAt s o) 0 ≡ interlock s o
 ended-level s o =

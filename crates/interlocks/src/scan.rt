@@ -1,22 +1,25 @@
-// The scan of the selection words. All six outputs go up together, so that the signals of a word are worked out once at most, and only
-// where an output that is still 1 selects some of them. Of each output is kept where its scan ended: the number of words read by
-// which it is 0, and 0 while it is 1. No word of an output is read once its scan has ended.
+// The scan of the selection words. All six outputs go up together, so that the signals of a word are worked out once at most, and, but
+// for the one word of gate errors, only where an output that is still 1 selects some of them. Of each output is kept where its scan
+// ended: the number of words read by which it is 0, and 0 while it is 1. No word of an output is read once its scan has ended.
 ghost use mathlib.Core.Path.{_≡_};
 ghost use Prim.Native.Nat.{_<_};
 ghost use lib.Dec.{eqb};
-ghost use lib.ListN.{getD};
 ghost use Rattle.bools.specs.Pick.{pick};
 ghost use Rattle.words.specs.Word.{bitOf};
 ghost use Rattle.lists.specs.Table.{tabulate};
-ghost use Rattle.device.specs.Map.{outputWords, selectionNumber};
-ghost use Rattle.interlocks.specs.Interlock.{interlocks};
+ghost use Rattle.gates.specs.Gate.{failed, gateBits};
+ghost use Rattle.device.specs.Map.{outputWords};
+ghost use Rattle.interlocks.specs.Interlock.{interlocks, selected};
 ghost use Rattle.interlocks.specs.Scan.{scanned};
-ghost use Rattle.interlocks.specs.Together.{afterWord, afterWords, anyWants, endedAt};
+ghost use Rattle.interlocks.specs.Together.{afterWord, afterWords, anyWants, endedBy, signalsBy};
 ghost use Rattle.interlocks.specs.Together.{wants as Together·wants};
 use crate::signals::meet;
 use crate::signals::other_signals;
+use counters::Counter;
 use device::Answer;
 use device::Crate;
+use device::Rest;
+use gates::GateBit;
 
 // What a scan answers: for each output its level, and how many of its selection words were read; all 0 where it is refused.
 pub struct Scan {
@@ -28,7 +31,7 @@ pub struct Scan {
 // Whether output o is still 1 and selects something in its word k.
 fn wants(ended: u16, selections: &[u16; 132], o: usize, k: usize) -> bool
     requires { ⌜ (o < 6) × (k < 22) ⌝ }
-    ensures { λ r. ⌜ r ≡ Together·wants ended (getD (now (selections .entry)) (selectionNumber o k) 0) ⌝ }
+    ensures { λ r. ⌜ r ≡ Together·wants ended (selected (now (selections .entry)) o k) ⌝ }
 {
     if ended != 0 {
         return false;
@@ -54,7 +57,7 @@ fn any_wants(ended: [u16; 6], selections: &[u16; 132], k: usize) -> bool
 // Where the scan of output o ended, after its word k.
 fn after_word(ended: u16, selections: &[u16; 132], o: usize, present: u16, k: usize) -> u16
     requires { ⌜ (o < 6) × (k < 22) ⌝ }
-    ensures { λ r. ⌜ r ≡ afterWord (getD (now (selections .entry)) (selectionNumber o k) 0) present k ended ⌝ }
+    ensures { λ r. ⌜ r ≡ afterWord (selected (now (selections .entry)) o k) present k ended ⌝ }
 {
     if ended != 0 {
         return ended;
@@ -79,12 +82,11 @@ fn after_words(ended: [u16; 6], selections: &[u16; 132], present: u16, k: usize)
     next
 }
 
-// Where the scans ended, after all words. The overflows are worked out here, as each further call would copy all counters.
-fn ended_at(s: Crate) -> [u16; 6]
-    ensures { λ r. ⌜ r ≡ tabulate 6 (endedAt s) ⌝ }
+// Where the scans ended, after all words. The overflows are worked out here, as each further call would copy all counters; of the gates
+// their errors come as one word, as with the gates themselves every read of a status register copies the crate (docs/DECISIONS.md).
+fn ended_by(counters: [Counter; 128], errors: u16, rest: Rest) -> [u16; 6]
+    ensures { λ r. ⌜ r ≡ tabulate 6 (endedBy (rest .selections) (signalsBy counters errors rest)) ⌝ }
 {
-    let counters = s.counters;
-    let rest = s.rest;
     let selections = rest.selections;
     let mut ended = [0u16; 6];
     let mut k: usize = 0;
@@ -93,7 +95,7 @@ fn ended_at(s: Crate) -> [u16; 6]
             let present = if k < 16 {
                 counters::overflow_word(counters, 8 <= k, k % 8)
             } else {
-                other_signals(s, k)
+                other_signals(errors, rest, k)
             };
             let next = after_words(ended, &selections, present, k);
             ended = next;
@@ -103,11 +105,15 @@ fn ended_at(s: Crate) -> [u16; 6]
     ended
 }
 
-// Register 0x0719: output o is 1 where none of its selected signals is present.
-pub fn outputs(s: Crate) -> u16
+// Register 0x0719: output o is 1 where none of its selected signals is present. The gate errors come from the caller, which has the gates
+// at hand (docs/DECISIONS.md).
+pub fn outputs(s: Crate, errors: u16) -> u16
+    requires { ⌜ errors ≡ gateBits failed (s .gates) ⌝ }
     ensures { λ r. ⌜ r ≡ interlocks s ⌝ }
 {
-    let ended = ended_at(s);
+    let counters = s.counters;
+    let rest = s.rest;
+    let ended = ended_by(counters, errors, rest);
     let mut w: u16 = 0;
     let mut o: usize = 6;
     while 0 < o {
@@ -135,7 +141,11 @@ fn words_read(ended: u16) -> u16
 pub fn scan_outputs(s: Crate) -> Scan
     ensures { λ r. ⌜ r ≡ scanned s ⌝ }
 {
-    let ended = ended_at(s);
+    let counters = s.counters;
+    let gates = s.gates;
+    let rest = s.rest;
+    let errors = gates::gate_bits(gates, GateBit::ErrorBit);
+    let ended = ended_by(counters, errors, rest);
     let mut levels = [0u16; 6];
     let mut words = [0u16; 6];
     let mut o: usize = 0;

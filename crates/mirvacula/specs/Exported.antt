@@ -50,10 +50,10 @@ imageWords = 0x1400
 unfoldable pub imageOf : Machine → List ℕ
 imageOf m = tabulate imageWords (λ k. readOf m (imageStart + k) .word)
 
+-- a scan as numbers: the levels of outputs 0 to 5, then the numbers of words read of them
 abbrev pub scanWords : ℕ
 scanWords = 12
 
--- the levels of outputs 0 to 5, then the numbers of words read of them
 abbrev pub scanNumbers : Scan → List ℕ
 scanNumbers x = x .levels ++ x .words
 
@@ -87,8 +87,10 @@ abbrev pub exportBy : ℕ → (Machine → List ℕ) → List ℕ → List ℕ �
 exportBy size shown memory t budget report words =
     pick (isFitting size report words) (exportedBy shown (runOn memory t budget)) (exported (misfit memory) memory report words)
 
+-- `mirvacula_run`
 unfoldable pub exportOf : List ℕ → List ℕ → ℕ → List ℕ → List ℕ → Exported
 exportOf = exportBy imageWords imageOf
 
+-- `mirvacula_scan`
 unfoldable pub scanExportOf : List ℕ → List ℕ → ℕ → List ℕ → List ℕ → Exported
 scanExportOf = exportBy scanWords (λ m. scanNumbers (scanOf m))

@@ -200,7 +200,7 @@ fn status_word(s: Crate, r: Status) -> u16
         Status::WatchdogErrors(k) => watchdog_bits(watchdogs, true, k),
         Status::GateInputs => rest.gatelevels,
         Status::GateOutputs => gates::gate_bits(gates, GateBit::OutputBit),
-        Status::Outputs => interlocks::outputs(s),
+        Status::Outputs => interlocks::outputs(s, gates::gate_bits(gates, GateBit::ErrorBit)),
         Status::GateStates(k) => gate_states(gates, k),
         Status::TagLow => events.low,
         Status::TagHigh => events.high,

@@ -404,7 +404,8 @@ full-start : Full machine0
 unfolding memory0
 full-start = length-tabulate 16384 _
 
-full-after : (l : List Call) → Full (after l)
+-- the memory has all its words after every list
+pub full-after : (l : List Call) → length (after l .memory) ≡ 16384
 unfolding after
 full-after l = full-from machine0 full-start l
 

@@ -40,7 +40,7 @@ use Rattle.device.specs.declared.state.Crate.{Crate}
 use Rattle.device.specs.declared.state.Rest.{Rest}
 use Rattle.device.specs.Answer.{isDone}
 use Rattle.registers.specs.Calls.{Call, tick, write, tag, download, after, answer, called, callAnswer, downloadAnswer, from, machine0, step}
-use Rattle.interlocks.specs.Interlock.{interlocks, lowGates, outputCount, selected, signals, trips, tripsBy}
+use Rattle.interlocks.specs.Interlock.{interlocks, otherSignals, outputCount, selected, signals, trips, tripsBy}
 use Rattle.device.specs.Map.{backplaneMap, below, controlMap, counterMap, decodeOf, eventMap, kept, outputBlock, outputWords, statusMap}
 use Rattle.reading.specs.Read.{answerFor, halfOf, lowFirst, readBy, readOf, settingWord, statusWord, wordIn}
 use Rattle.device.specs.State.{Machine, powerUp, withCounters, withGates, withRest, withState}
@@ -509,7 +509,7 @@ apart-kept r m = record {
 
 -- the outputs, were these the signals
 abbrev outputsBy : Crate → (ℕ → ℕ) → ℕ
-outputsBy s present = pack outputCount (λ o. not (tripsBy (selected s o) present outputWords))
+outputsBy s present = pack outputCount (λ o. not (tripsBy (selected (s .rest .selections) o) present outputWords))
 
 outputs-counters : (s : Crate) (x : List Counter) → ((n : ℕ) → isUnder (counterAt x n) ≡ isUnder (counterAt (s .counters) n)) →
     ((n : ℕ) → isOver (counterAt x n) ≡ isOver (counterAt (s .counters) n)) → interlocks (withCounters s x) ≡ interlocks s
@@ -517,9 +517,7 @@ unfolding interlocks trips signals overflowWord
 outputs-counters s x u o = λ i.
     outputsBy s (λ k.
     pick (ltb k 8) (pack 16 (λ b. u (16 * k + b) i))
-    (pick (ltb k 16) (pack 16 (λ b. o (16 * (k - 8) + b) i))
-    (pick (ltb k 17) (gateBits failed (s .gates))
-    (pick (ltb k 21) (watchdogWord errorOf (s .rest .watchdogs) (k - 17)) (lowGates s)))))
+    (pick (ltb k 16) (pack 16 (λ b. o (16 * (k - 8) + b) i)) (otherSignals (gateBits failed (s .gates)) (s .rest) k)))
 
 outputs-gates : (s : Crate) (x : List Gate) → ((g : ℕ) → gateAt x g .state ≡ gateAt (s .gates) g .state) →
     interlocks (withGates s x) ≡ interlocks s
@@ -527,9 +525,7 @@ unfolding interlocks trips signals gateBits
 outputs-gates s x e = λ i.
     outputsBy s (λ k.
     pick (ltb k 8) (overflowWord isUnder (s .counters) k)
-    (pick (ltb k 16) (overflowWord isOver (s .counters) (k - 8))
-    (pick (ltb k 17) (pack 12 (λ g. isError (e g i)))
-    (pick (ltb k 21) (watchdogWord errorOf (s .rest .watchdogs) (k - 17)) (lowGates s)))))
+    (pick (ltb k 16) (overflowWord isOver (s .counters) (k - 8)) (otherSignals (pack 12 (λ g. isError (e g i))) (s .rest) k)))
 
 -- one part is written
 

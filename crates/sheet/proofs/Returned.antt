@@ -5,6 +5,7 @@ use mathlib.Core.Bool.{true, false}
 use mathlib.Core.List.{List, [], _∷_, _++_}
 use mathlib.Core.Option.{some}
 use mathlib.Core.Path.{_≡_, sym, ap, subst, _∙_}
+use borrow.Author.Tests.{eq-eqb}
 use lib.ListN.{getD, length}
 use Rattle.words.specs.Word.{bit, bitOf}
 use Rattle.loader.specs.declared.loader.Request.{Request}
@@ -34,7 +35,8 @@ use Rattle.sheet.specs.Requests.{finished, requestMade, standAfter, wait
 use Rattle.sheet.specs.Returned.{Act, calling, reading, scanning, tracing, Looked, Powered, Ran, Rehearsed, Returned, Scanned, Went, listFrom, listOf}
 use Rattle.sheet.specs.Sheet.{sheetAfter, sheetShows}
 use Rattle.sheet.specs.Shows.{shows}
-use Rattle.sheet.proofs.Theorems.{alike-cut, finishes, isolation, raw-reads, reachable, read-back, read-other, refused, run-halts, run-is-list, run-records, run-refusals, run-sound, run-stops, run-ticks, scan-least, scan-level}
+use Rattle.sheet.proofs.Finishes.{full-after}
+use Rattle.sheet.proofs.Theorems.{alike-cut, finishes, isolation, raw-reads, reachable, read-back, read-other, refused, run-halts, run-is-list, run-records, run-refusals, run-sound, run-stops, run-ticks, scan-ends, scan-least, scan-level, scan-whole}
 
 -- one call, one run
 stepped : (m : Machine) (x : Call) (r : Outcome) (memory : List ℕ) → Returned m x r memory → machine (r .state) memory ≡ step m x
@@ -111,6 +113,14 @@ module _ (l : List Act) (n : Machine) (h : Rehearsed l n) where
   pub code-scan : (q : Scan) (memory : List ℕ) → Scanned n q memory → q ≡ scanOf (after (listOf l))
   code-scan q memory scan = scan .0 ∙ ap scanOf (rehearsed l n h)
 
+  -- and the words that it read make an output 0 where its level is 0
+  pub code-scan-ends : (q : Scan) (memory : List ℕ) → Scanned n q memory → (o : ℕ) → o < 6 → getD (q .levels) o 0 ≡ 0 →
+      trips (n .state) o (getD (q .words) o 0) ≡ true
+  code-scan-ends q memory scan o b low =
+      let whole : isWhole (n .memory) ≡ true = ap (λ (k : Machine). isWhole (k .memory)) (rehearsed l n h) ∙ eq-eqb _ _ (full-after (listOf l)) in
+      subst (λ (r : Scan). trips (n .state) o (getD (r .words) o 0) ≡ true) (sym (scan .0))
+      (scan-ends n o b whole (sym (ap (λ (r : Scan). getD (r .levels) o 0) (scan .0)) ∙ low))
+
   -- a write that `write` accepted, and a read after it
   pub code-read-back : (a w : ℕ) (r : Outcome) (memory : List ℕ) → Returned n (write a w) r memory → r .answer ≡ Done →
       (q : Read) (left : List ℕ) → Looked (machine (r .state) memory) a q left → q ≡ readBy Done (kept (decodeOf a) w)
@@ -159,6 +169,13 @@ pub code-scan-least : (m : Machine) (q : Scan) (memory : List ℕ) → Scanned m
     (w : ℕ) → w < getD (q .words) o 0 → trips (m .state) o w ≡ false
 code-scan-least m q memory scan o b w l =
     scan-least m o b w (subst (λ (r : Scan). w < getD (r .words) o 0) (scan .0) l)
+
+-- and all are read where its level is 1
+pub code-scan-whole : (m : Machine) (q : Scan) (memory : List ℕ) → Scanned m q memory → (o : ℕ) → o < 6 → getD (q .levels) o 0 ≡ 1 →
+    getD (q .words) o 0 ≡ 22
+code-scan-whole m q memory scan o b high =
+    ap (λ (r : Scan). getD (r .words) o 0) (scan .0)
+    ∙ scan-whole m o b (sym (ap (λ (r : Scan). getD (r .levels) o 0) (scan .0)) ∙ high)
 
 -- a run hands back a report that has stopped, with the counts over the calls of the records that it passed, for every crate and memory
 module _ (m : Machine) (t : List ℕ) (budget : ℕ) (p : Progress) (memory : List ℕ) (ran : Ran m t budget p memory) where

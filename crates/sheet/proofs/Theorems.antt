@@ -100,19 +100,21 @@ pub raw-alike : (j : ℕ) → j < 108 → (l m : List Call) → levelsOf (j / 2)
 raw-alike j b l m e =
     raw-reads j b l ∙ ap (λ (levels : List Bool). readBy Done (lowFirst j (risesIn false levels % 2 ^ 32))) e ∙ sym (raw-reads j b m)
 
--- Document 02, CR 3, for every crate and memory, so after every list: the level that a scan gives of output o is bit o of what a read of 0x0719
--- gives; no fewer of its first selection words than those read make it 0; those read do, where it is 0 and the memory has 16,384 words; and
--- all are read where it is 1.
+-- Document 02, CR 3, for every crate and memory, so after every list
 module _ (m : Machine) (o : ℕ) (h : o < 6) where
+  -- The level that a scan gives of output o is bit o of what a read of 0x0719 gives.
   pub scan-level : getD (scanOf m .levels) o 0 ≡ bitOf (bit (readOf m 0x0719 .word) o)
   scan-level = scanning.scan-level m o h
 
+  -- No fewer of its first selection words than those read make it 0.
   pub scan-least : (w : ℕ) → w < getD (scanOf m .words) o 0 → trips (m .state) o w ≡ false
   scan-least = scanning.scan-least m o h
 
+  -- Those read do, where it is 0 and the memory has 16,384 words, as it has after every list (`code-scan-ends`).
   pub scan-ends : isWhole (m .memory) ≡ true → getD (scanOf m .levels) o 0 ≡ 0 → trips (m .state) o (getD (scanOf m .words) o 0) ≡ true
   scan-ends = scanning.scan-ends m o h
 
+  -- All are read where it is 1.
   pub scan-whole : getD (scanOf m .levels) o 0 ≡ 1 → getD (scanOf m .words) o 0 ≡ 22
   scan-whole = scanning.scan-whole m o h
 

@@ -497,6 +497,8 @@ scanRows =
     ∷ row 22 (scans (write 0x1115 4 ∷ []) 0)
     ∷ row 122 (scans (write 0x1115 4 ∷ tick 0 4 ∷ []) 0)
     ∷ row 122 (scans (write 0x1115 4 ∷ tick 0 4 ∷ tick 0 0x1000 ∷ []) 0)
+    -- two words past the first trip: the lower one counts
+    ∷ row 9 (scans (counting 0 ++ pulses 1 ++ (write 0x0800 0 ∷ tick 0 1 ∷ write 0x1108 1 ∷ write 0x1111 0x8000 ∷ [])) 0)
     -- an earlier word selects what is absent; what is present is not selected; unused bits are dropped
     ∷ row 17 (scans (tick 0 0x0A00 ∷ write 0x1100 1 ∷ write 0x1110 0x0200 ∷ []) 0)
     ∷ row 122 (scans (under 0 ++ (write 0x1100 2 ∷ [])) 0)

@@ -10,8 +10,7 @@ use lib.ListN.{getD}
 use Rattle.words.proofs.Gather.{pack-ext, packed-all, packed-lt, packed-more, packed-none, packedFrom}
 use Rattle.lists.proofs.Tables.{getD-tabulate}
 use Rattle.interlocks.specs.Interlock.{interlock, interlocks}
-use Rattle.interlocks.specs.Together.{endedAt}
-use Rattle.interlocks.proofs.Scanning.{ended-level}
+use Rattle.interlocks.proofs.Scanning.{ended-is, ended-level, endedAt}
 use Rattle.interlocks.proofs.scan.outputs.Statement.{statement}
 use Rattle.interlocks.proofs.scan.outputs.Tie as tie
 
@@ -19,22 +18,22 @@ abbrev isOne : List ℕ → ℕ → Bool
 isOne ended o = eqb (getD ended o 0) 0
 
 abbrev Inv-loop : tie.InvT-loop
-Inv-loop ended w₀ o₀ w o = (o ≤ 6) × (w ≡ packedFrom 6 (isOne ended) o)
+Inv-loop errors ended w₀ o₀ w o = (o ≤ 6) × (w ≡ packedFrom 6 (isOne ended) o)
 
 abbrev μ-loop : tie.MeasureT-loop
-μ-loop ended w₀ o₀ w o = o
+μ-loop errors ended w₀ o₀ w o = o
 
 loop-holds : tie.Need-loop-holds Inv-loop μ-loop
-loop-holds c = (omega arith, sym (packed-none 6 (isOne (c .ended-at .result))))
+loop-holds c = (omega arith, sym (packed-none 6 (isOne (c .ended-by .result))))
 
 push-bit-requires : tie.Need-push-bit-requires Inv-loop μ-loop
 push-bit-requires c κs =
-    let l = c .before .loop in rw (l .inv .1) (packed-lt 6 (isOne (c .before .before .ended-at .result)) 15 (l .o) (omega arith))
+    let l = c .before .loop in rw (l .inv .1) (packed-lt 6 (isOne (c .before .before .ended-by .result)) 15 (l .o) (omega arith))
 
 loop-again : tie.Need-loop-again Inv-loop μ-loop
 loop-again c =
     let l = c .before .before .loop in
-    let f = isOne (c .before .before .before .ended-at .result) in
+    let f = isOne (c .before .before .before .ended-by .result) in
     let more : 0 < l .o = omega arith in (omega arith, rw (l .inv .1) at (c .push-bit .ensures) ∙ packed-more 6 f (l .o) more (l .inv .0))
 
 returns : tie.Need-returns Inv-loop μ-loop
@@ -42,11 +41,13 @@ unfolding interlocks
 returns c =
     let l = c .before .loop in
     let t = c .before .before in
-    let s = t .before .args .s in
+    let b = t .before .before .before in
+    let s = b .args .s in
+    let ended = t .ended-by .ensures ∙ ended-is s _ (b .pre) in
     let e : l .o ≡ 0 = omega arith in
     (rw e at (l .inv .1))
-    ∙ packed-all 6 (isOne (t .ended-at .result))
-    ∙ pack-ext 6 _ (interlock s) (λ o h. rw (t .ended-at .ensures, getD-tabulate 6 (endedAt s) o 0 h) (ended-level s o))
+    ∙ packed-all 6 (isOne (t .ended-by .result))
+    ∙ pack-ext 6 _ (interlock s) (λ o h. rw (ended, getD-tabulate 6 (endedAt s) o 0 h) (ended-level s o))
 
 pub outputs-spec : {M : Type 1} → statement M
 outputs-spec =

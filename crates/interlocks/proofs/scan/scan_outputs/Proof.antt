@@ -1,4 +1,4 @@
--- `scan_outputs` meets its contract: the loop tells one output a turn (`Swept`), by what `ended_at` gives of it (`ended-level`, `ended-words`).
+-- `scan_outputs` meets its contract: the loop tells one output a turn (`Swept`), by what `ended_by` gives of it (`ended-level`, `ended-words`).
 use Prim.Native.Nat.{ℕ, _-_, _<_}
 use native.Mathlib.Omega.{arith}
 use mathlib.Core.List.{List}
@@ -16,8 +16,7 @@ use Rattle.device.specs.declared.state.Crate.{Crate}
 use Rattle.device.specs.Map.{outputWords}
 use Rattle.interlocks.specs.Interlock.{interlock}
 use Rattle.interlocks.specs.Scan.{wordsRead}
-use Rattle.interlocks.specs.Together.{endedAt}
-use Rattle.interlocks.proofs.Scanning.{ended-level, ended-words}
+use Rattle.interlocks.proofs.Scanning.{ended-is, ended-level, ended-words, endedAt}
 use Rattle.interlocks.proofs.scan.scan_outputs.Statement.{statement}
 use Rattle.interlocks.proofs.scan.scan_outputs.Tie as tie
 
@@ -28,11 +27,11 @@ abbrev wordsIn : List ℕ → ℕ → ℕ
 wordsIn ended o = pick (eqb (getD ended o 0) 0) outputWords (getD ended o 0)
 
 abbrev Inv-loop : tie.InvT-loop
-Inv-loop ended levels₀ words₀ o₀ levels words o =
+Inv-loop errors ended levels₀ words₀ o₀ levels words o =
     (length levels₀ ≡ 6) × (length words₀ ≡ 6) × Swept (tabulate 6 (levelIn ended)) levels₀ o levels × Swept (tabulate 6 (wordsIn ended)) words₀ o words
 
 abbrev μ-loop : tie.MeasureT-loop
-μ-loop ended levels₀ words₀ o₀ levels words o = 6 - o
+μ-loop errors ended levels₀ words₀ o₀ levels words o = 6 - o
 
 loop-holds : tie.Need-loop-holds Inv-loop μ-loop
 loop-holds c = (search needs, search needs, swept-none _ _ (length-tabulate 6 _), swept-none _ _ (length-tabulate 6 _))
@@ -61,8 +60,11 @@ returns : tie.Need-returns Inv-loop μ-loop
 returns c =
     let h = c .before .loop .inv in
     let t = c .before .before in
-    let levels = swept-all (h .2) (omega arith) ∙ levels-told (t .before .args .s) _ (t .ended-at .ensures) in
-    let words = swept-all (h .3) (omega arith) ∙ words-told (t .before .args .s) _ (t .ended-at .ensures) in
+    let b = t .before in
+    let s = b .before .before .before .before .args .s in
+    let ended = t .ended-by .ensures ∙ ended-is s _ (b .gate-bits .ensures) in
+    let levels = swept-all (h .2) (omega arith) ∙ levels-told s _ ended in
+    let words = swept-all (h .3) (omega arith) ∙ words-told s _ ended in
     λ i. record { answer = Done; levels = levels i; words = words i }
 
 pub scan-outputs-spec : {M : Type 1} → statement M
@@ -71,6 +73,7 @@ scan-outputs-spec =
     (tie.spec
     Inv-loop
     μ-loop
+    (λ c κs. search needs)
     (λ c κs. search needs)
     loop-holds
     (λ c. search needs)
