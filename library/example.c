@@ -1,10 +1,12 @@
 /*
  * Runs the trace on standard input with 1,000,000 ticks and prints its report and the six interlock outputs, with the
  * selection words that each took to be known. With the argument `capture` the input is a capture of the pulse recorder,
- * of at most 1,000,000 frames, and its trace is run.
+ * of at most 1,000,000 frames, and its trace is run. With the argument `sums` the input is samples of a count, one whole
+ * number of 32 bits a line, and it prints after each the sum over the last four.
  */
 #include <inttypes.h>
 #include <stdio.h>
+#include <stdlib.h>
 #include <string.h>
 
 #include "mirvacula.h"
@@ -12,6 +14,8 @@
 #define TRACE_BYTES 65536
 #define BUDGET 1000000
 #define OUTPUTS 0x0719 /* register of the interlock outputs */
+#define WINDOW 4       /* samples of a sliding sum */
+#define LINE_BYTES 64
 
 static uint16_t memory[MIRVACULA_MEMORY_WORDS];
 static uint16_t image[MIRVACULA_IMAGE_WORDS];
@@ -44,7 +48,7 @@ static int run(size_t bytes)
     return stop == MIRVACULA_END ? 0 : 1;
 }
 
-/* Says why there is nothing to run. */
+/* Says why the input is refused. */
 static int refuse(const char *why)
 {
     fprintf(stderr, "%s\n", why);
@@ -70,9 +74,44 @@ static int convert_and_run(void)
     }
 }
 
+/* Whether a line of the input is one number of 32 bits, and that number. A longer line comes in parts without its end. */
+static int is_sample(const char *line, int32_t *sample)
+{
+    const char *end_of_line = feof(stdin) ? "" : "\n";
+    char *rest;
+    long long number = strtoll(line, &rest, 10);
+
+    *sample = (int32_t)number;
+    return rest != line && strcmp(rest, end_of_line) == 0 && number >= INT32_MIN && number <= INT32_MAX;
+}
+
+/* Window and ring are good, so no sample is refused once the start is not. */
+static int sum_up(void)
+{
+    static int64_t ring[WINDOW];
+    uint64_t state[MIRVACULA_SUM_STATE_WORDS];
+    char line[LINE_BYTES];
+    int32_t sample;
+    int64_t sum;
+
+    if (mirvacula_sum_start(state, MIRVACULA_SUM_STATE_WORDS, ring, WINDOW, WINDOW) != MIRVACULA_DONE)
+        return refuse("the window is not from 1 to 65,536 (14)");
+    for (unsigned long lines = 1; fgets(line, sizeof line, stdin) != NULL; lines++) {
+        if (!is_sample(line, &sample)) {
+            fprintf(stderr, "line %lu: not a whole number of 32 bits\n", lines);
+            return 1;
+        }
+        mirvacula_sum_sample(state, MIRVACULA_SUM_STATE_WORDS, ring, WINDOW, sample, &sum, 1);
+        printf("%" PRId64 "\n", sum);
+    }
+    return 0;
+}
+
 int main(int argc, char **argv)
 {
     if (argc == 2 && strcmp(argv[1], "capture") == 0)
         return convert_and_run();
+    if (argc == 2 && strcmp(argv[1], "sums") == 0)
+        return sum_up();
     return run(fread(trace, 1, TRACE_BYTES, stdin));
 }

@@ -1,4 +1,7 @@
-/* The counting core of a beam loss counter crate: rehearses a patching away from the beam; makes traces of captures. */
+/*
+ * The counting core of a beam loss counter crate: rehearses a patching away from the beam; makes traces of captures; gives
+ * sliding sums of a count.
+ */
 #ifndef MIRVACULA_H
 #define MIRVACULA_H
 
@@ -33,6 +36,14 @@
 #define MIRVACULA_NO_ROOM 13     /* output shorter than the trace */
 /* MIRVACULA_BAD_BUFFER 255         answer of the wrong length, and the capture of whole frames: nothing is done */
 
+#define MIRVACULA_SUM_STATE_WORDS 3        /* window, place in the ring, sum in two's complement */
+#define MIRVACULA_SUM_LARGEST_WINDOW 65536 /* samples */
+
+/* What a start or a sample of a sliding sum returns. */
+/* MIRVACULA_DONE 0 */
+#define MIRVACULA_BAD_SUM 14     /* window not from 1 to 65,536, ring shorter than the window, or place not below the window */
+/* MIRVACULA_BAD_BUFFER 255         state or sum of the wrong length, whatever else is wrong: nothing is done */
+
 /*
  * Powers up a crate on the lent memory (which it clears), runs the trace with a budget of ticks and fills in report and
  * image. Returns why the run stopped; report[0] says the same. Where report or image has the wrong
@@ -63,5 +74,26 @@ uint16_t mirvacula_scan(uint16_t *memory, size_t memory_words, const uint8_t *tr
  */
 uint16_t mirvacula_convert(const uint8_t *capture, size_t capture_bytes, uint8_t *out, size_t out_bytes,
                            uint64_t *answer, size_t answer_words);
+
+/*
+ * Starts a sliding sum of a count over the last `window` samples: clears that many words of the ring from its first on, leaves
+ * those past them and makes the state window, 0, 0. Returns MIRVACULA_DONE, or MIRVACULA_BAD_SUM: then the ring stays and the
+ * state is 0, 0, 0, so that every sample on it is refused. Where state has the wrong length nothing is done, and it returns
+ * MIRVACULA_BAD_BUFFER. Each length is the number of elements behind the pointer before it. A pointer may not be NULL, and the
+ * areas may not overlap.
+ */
+uint16_t mirvacula_sum_start(uint64_t *state, size_t state_words, int64_t *ring, size_t ring_words, uint64_t window);
+
+/*
+ * Takes a sample: sum[0], the only word of sum, and the state's sum become that of the last `window` samples since the start,
+ * where those before the start count as 0; it cannot wrap. The sample replaces the ring word at the state's place, and the place
+ * moves on, from the window's last word to the first. Between two samples state and ring have to stay as they are: on a state
+ * or a ring that a start and its samples did not leave the sum is the state's sum plus the sample less the ring word at the
+ * place, wrapped to a signed number of 64 bits. Returns MIRVACULA_DONE, or MIRVACULA_BAD_SUM: then state and ring stay and
+ * sum[0] is 0. Where state or sum has the wrong length nothing is done, and it returns MIRVACULA_BAD_BUFFER. Lengths and
+ * pointers are as for mirvacula_sum_start.
+ */
+uint16_t mirvacula_sum_sample(uint64_t *state, size_t state_words, int64_t *ring, size_t ring_words, int32_t sample,
+                              int64_t *sum, size_t sum_words);
 
 #endif

@@ -1,6 +1,6 @@
 //! Times conversions of captures, by the library and in plain Rust, and compares what they give.
 
-use crate::{clock, column, ratio_text};
+use crate::{clock, line, ratio_text};
 use benchmark::conversion;
 use mirvacula::{NotConverted, FRAME_BYTES, TICK_BYTES};
 use reference::capture::{converted, frame, Frame};
@@ -91,11 +91,6 @@ impl Conversion {
     fn run(&mut self, convert: Convert) -> Result<usize, NotConverted> {
         convert(&self.capture, &mut self.out)
     }
-}
-
-/// A line of a table, each text in the column of its name.
-fn line(start: String, names: &[&str], texts: &[String]) -> String {
-    names.iter().zip(texts).fold(start, |line, (name, text)| line + &column(name, text))
 }
 
 const SPEEDS: [&str; 3] = ["library", "plain", "plain:library"];

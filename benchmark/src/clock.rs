@@ -2,8 +2,8 @@
 
 use std::hint::black_box;
 
-/// The median seconds of runs 0, 1 and so on, made in turn in every round. What a run gives is dropped behind its time.
-pub fn medians<T>(rounds: usize, runs: usize, mut run: impl FnMut(usize) -> T) -> Vec<f64> {
+/// The seconds of runs 0, 1 and so on, made in turn in every round. What a run gives is dropped behind its time.
+pub fn times<T>(rounds: usize, runs: usize, mut run: impl FnMut(usize) -> T) -> Vec<Vec<f64>> {
     let mut times = vec![Vec::new(); runs];
     for _ in 0..rounds {
         for (k, times) in times.iter_mut().enumerate() {
@@ -13,8 +13,23 @@ pub fn medians<T>(rounds: usize, runs: usize, mut run: impl FnMut(usize) -> T) -
             drop(given);
         }
     }
-    times.iter_mut().for_each(|times| times.sort_by(f64::total_cmp));
-    times.iter().map(|times| times[times.len() / 2]).collect()
+    times
+}
+
+/// The median seconds of each of these runs.
+pub fn medians<T>(rounds: usize, runs: usize, run: impl FnMut(usize) -> T) -> Vec<f64> {
+    times(rounds, runs, run).into_iter().map(median).collect()
+}
+
+pub fn median(mut numbers: Vec<f64>) -> f64 {
+    numbers.sort_by(f64::total_cmp);
+    numbers[numbers.len() / 2]
+}
+
+/// The median of what each round gives for one run's time by another's. It stays where all rounds of a while are slow, as
+/// both runs of a round then are.
+pub fn median_ratio(times: &[f64], others: &[f64]) -> f64 {
+    median(times.iter().zip(others).map(|(time, other)| time / other).collect())
 }
 
 #[cfg(target_os = "linux")]

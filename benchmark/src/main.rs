@@ -1,12 +1,13 @@
 //! Times the library, the reference model and the crate in place on the same traces, in turn, and compares what they
 //! give. With the feature `before` the library of an earlier revision is among them. Then it times conversions of
-//! captures. With an argument it runs one thing once, for a count of instructions.
+//! captures and samples of sliding sums. With an argument it runs one thing once, for a count of instructions.
 
 #[cfg(feature = "before")]
 mod before;
 mod captures;
 mod clock;
 mod scans;
+mod sums;
 mod traces;
 
 use mirvacula::{Rehearsal, Report, Stop, MEMORY_WORDS};
@@ -125,6 +126,11 @@ fn column(name: &str, text: &str) -> String {
     format!("{text:>width$}", width = (name.len() + 2).max(10))
 }
 
+/// A line of a table, each text in the column of its name.
+fn line(start: String, names: &[&str], texts: &[String]) -> String {
+    names.iter().zip(texts).fold(start, |line, (name, text)| line + &column(name, text))
+}
+
 fn header() -> String {
     let names = IMPLEMENTATIONS.iter().map(|(name, _)| name.to_string());
     let columns = names.chain(RATIOS.iter().map(|name| format!("library:{name}")));
@@ -176,7 +182,8 @@ fn main() -> ExitCode {
         ["image", name] => scans::image(name, by_library),
         #[cfg(feature = "before")]
         ["image-before", name] => scans::image(name, by_library_before),
-        [] => time_traces().and_then(|()| captures::time()),
+        ["sum", window] => sums::once(window),
+        [] => time_traces().and_then(|()| captures::time()).and_then(|()| sums::time()),
         _ => Err(format!("no such run: {}", words.join(" "))),
     };
     match done {

@@ -1,8 +1,10 @@
 //! Rehearses a patching of a beam loss counter crate: a trace is run from power-up, and its report and the registers
-//! or the interlock outputs that it leaves are handed back. A capture of the pulse recorder becomes such a trace.
+//! or the interlock outputs that it leaves are handed back. A capture of the pulse recorder becomes such a trace. Samples of a
+//! count are summed over a sliding window.
 
 mod captures;
 mod scans;
+mod sums;
 
 #[doc(hidden)]
 pub use captures::convert_by_numbers;
@@ -10,6 +12,9 @@ pub use captures::{convert, trace_of, NotConverted, FRAME_BYTES, TICK_BYTES};
 #[doc(hidden)]
 pub use scans::scan_by_numbers;
 pub use scans::{scan, Output, Scan, OUTPUTS};
+#[doc(hidden)]
+pub use sums::{sum_sample_by_numbers, sum_start_by_numbers};
+pub use sums::{BadWindow, SlidingSum, LARGEST_WINDOW};
 
 pub const MEMORY_WORDS: usize = 16_384;
 pub const IMAGE_START: u16 = 0x0600;

@@ -7,6 +7,7 @@
 pub mod captures;
 mod repeats;
 mod scans;
+pub mod sums;
 
 use crate::model::bad_level;
 use crate::numbers::{GATE_BITS, INPUT_BITS};

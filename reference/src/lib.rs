@@ -2,7 +2,7 @@
 //!
 //! "01" is the scope paper, "02" the change requests, "Manual" the Unilac-BLM
 //! Programmer's Manual ver. 0.1. Where two speak, 02 decides, then 01. Of 02,
-//! requests 1 to 3 are in.
+//! requests 1 to 4 are in.
 #![forbid(unsafe_code)]
 
 pub mod capture;
@@ -17,6 +17,7 @@ pub mod model;
 pub mod numbers;
 pub mod raw;
 pub mod scan;
+pub mod sums;
 pub mod trace;
 pub mod watchdog;
 

@@ -29,3 +29,5 @@ pub const DOWNLOAD_LENGTH: u8 = 11;
 // 02, CR 2.
 pub const NOT_FRAMES: u8 = 12;
 pub const NO_ROOM: u8 = 13;
+// 02, CR 4.
+pub const BAD_SUM: u8 = 14;

@@ -1,6 +1,6 @@
 -- A tick with the gate's output as it was and then k is k + 1, and a tick and then none is the tick: of a count, of a counter, and of all.
 use Prim.{tt}
-use Prim.Native.Nat.{ℕ, zero, suc, _+_, _-_, _*_, _/_, _%_, _^_, _<_}
+use Prim.Native.Nat.{ℕ, _+_, _-_, _*_, _/_, _%_, _^_, _<_}
 use native.Mathlib.Nat.{div-add-mod', mod-lt, not-suc-le-zero}
 use native.Mathlib.Omega.{arith}
 use mathlib.Core.Bool.{Bool, true, false, not, _&&_}
@@ -8,11 +8,12 @@ use mathlib.Core.List.{List}
 use mathlib.Core.Path.{_≡_, refl, sym, ap, _∙_}
 use borrow.Author.Tests.{ltb-false, ltb-true}
 use lib.Dec.{lit<, ltb}
-use lib.IntN.{ℤ, pos, negsuc, _+ℤ_, _-ℤ_, +ℤ-one, -ℤ-one}
+use lib.IntN.{ℤ, pos, negsuc, _+ℤ_, _-ℤ_}
 use lib.ListN.{getD}
 use lib.Signed.{mag}
 use Rattle.numbers.specs.Signed.{highWord, joined, lowWord, signed, wordOf, wrapped}
 use Rattle.words.specs.Word.{bit, bitOf}
+use Rattle.numbers.proofs.Adding.{word-add}
 use Rattle.numbers.proofs.Complement.{word-lt, word-signed, wrapped-lt, wrapped-same}
 use Rattle.bools.proofs.Tests.{and-not, cases}
 use Rattle.lists.specs.Table.{each, tabulate}
@@ -23,16 +24,6 @@ use Rattle.counters.specs.Leap.{Ranged, countAfter, counterAfter, counte
 
 -- ---- a count
 
-word-up : (z : ℤ) → wordOf 32 (z +ℤ pos 1) ≡ (wordOf 32 z + 1) % 4294967296
-word-up (pos n) = omega arith
-word-up (negsuc zero) = refl
-word-up (negsuc (suc n)) = rw +ℤ-one (omega arith)
-
-word-down : (z : ℤ) → wordOf 32 (z -ℤ pos 1) ≡ (wordOf 32 z + 4294967295) % 4294967296
-word-down (pos zero) = refl
-word-down (pos (suc n)) = rw -ℤ-one (omega arith)
-word-down (negsuc n) = omega arith
-
 word-wrapped : (z : ℤ) → wordOf 32 (wrapped 32 z) ≡ wordOf 32 z
 word-wrapped z = word-signed 32 (wordOf 32 z) (word-lt 32 z)
 
@@ -42,8 +33,8 @@ added w u d ups downs = omega arith
 
 counted-word : (z : ℤ) (up down : Bool) → wordOf 32 (counted z up down) ≡ (wordOf 32 z + bitOf up + 4294967295 * bitOf down) % 4294967296
 counted-word z true true = omega (arith, word-lt 32 z)
-counted-word z true false = word-wrapped (z +ℤ pos 1) ∙ word-up z ∙ omega arith
-counted-word z false true = word-wrapped (z -ℤ pos 1) ∙ word-down z ∙ omega arith
+counted-word z true false = word-wrapped (z +ℤ pos 1) ∙ word-add 32 z (pos 1) ∙ omega arith
+counted-word z false true = word-wrapped (z -ℤ pos 1) ∙ word-add 32 z (negsuc 0) ∙ omega arith
 counted-word z false false = omega (arith, word-lt 32 z)
 
 count-more : (z : ℤ) (up down : Bool) (ups downs : ℕ) → countAfter (counted z up down) ups downs ≡ countAfter z (bitOf up + ups) (bitOf down + downs)

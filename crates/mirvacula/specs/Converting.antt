@@ -5,7 +5,7 @@ use lib.Dec.{eqb}
 use lib.ListN.{length}
 use Rattle.bools.specs.Pick.{pick}
 use Rattle.captures.specs.Captures.{Conversion, conversionOf, frameBytes, notFrames}
-use Rattle.mirvacula.specs.Exported.{badBuffer}
+use Rattle.lent.specs.Lent.{badBuffer}
 
 -- the trace's length in bytes, and the frame of refusal 6
 abbrev pub answerWords : ℕ

@@ -18,6 +18,7 @@ use Rattle.records.specs.declared.Stop.{Stop}
 use Rattle.records.specs.declared.Stop.the-variants.{End, Spent, Memory, UnknownTag, WrongLength, Cut, NoRepeat}
 use Rattle.trace.specs.Run.{Run, machineOf, runOf}
 use Rattle.records.specs.Stops.{stopNumber}
+use Rattle.lent.specs.Lent.{badBuffer}
 
 -- why a run stopped, as a number: 0 for END, 254 for SPENT, else the number of 01's table
 abbrev pub stopCode : Stop → ℕ
@@ -28,10 +29,6 @@ stopCode UnknownTag = stopNumber UnknownTag
 stopCode WrongLength = stopNumber WrongLength
 stopCode Cut = stopNumber Cut
 stopCode NoRepeat = stopNumber NoRepeat
-
--- a lent report, image, scan or answer has the wrong length
-abbrev pub badBuffer : ℕ
-badBuffer = 255
 
 abbrev pub reportWords : ℕ
 reportWords = 5

@@ -1,5 +1,5 @@
 // The library for programs in C and Rust: a trace run from power-up, its report and its register image or the scan of its outputs as
-// numbers; a capture as a trace.
+// numbers; a capture as a trace; sliding sums.
 ghost use mathlib.Core.List.{_++_};
 ghost use mathlib.Core.Path.{_≡_};
 ghost use lib.Dec.{eqb};
@@ -8,7 +8,9 @@ ghost use lib.ListN.{getD, length};
 ghost use Rattle.bools.specs.Pick.{pick};
 ghost use Rattle.device.specs.State.{machine};
 ghost use Rattle.mirvacula.specs.Converting.{answered, convertOf, unanswered};
-ghost use Rattle.mirvacula.specs.Exported.{badBuffer, exported, exportOf, imageOf, imageWords, scanNumbers, reportOf, reportWords, runOn};
+ghost use Rattle.lent.specs.Lent.{badBuffer};
+ghost use Rattle.lent.specs.Sums.{lentSample, lentStart, sumSampleOf, sumStartOf};
+ghost use Rattle.mirvacula.specs.Exported.{exported, exportOf, imageOf, imageWords, scanNumbers, reportOf, reportWords, runOn};
 ghost use Rattle.mirvacula.specs.Exported.{scanExportOf, scanWords, stopCode};
 ghost use Rattle.records.specs.declared.Stop.the-variants.{Memory};
 ghost use Rattle.records.specs.Stops.{stopNumber};
@@ -170,4 +172,25 @@ pub extern "C" fn mirvacula_convert(capture: &[u8], out: &mut [u8], answer: &mut
     answer[0] = made.bytes as u64;
     answer[1] = made.frame as u64;
     made.number
+}
+
+// Starts a sliding sum on a lent ring, its state in lent words.
+#[no_mangle]
+pub extern "C" fn mirvacula_sum_start(state: &mut [u64], ring: &mut [i64], window: u64) -> u16
+    ensures { λ r. ⌜ lentStart r (now (state .exit)) (now (ring .exit)) ≡ sumStartOf (now (state .entry)) (now (ring .entry)) window ⌝ }
+{
+    lent::sum_start(state, ring, window)
+}
+
+// Feeds a sample into a sliding sum.
+#[no_mangle]
+pub extern "C" fn mirvacula_sum_sample(
+    state: &mut [u64],
+    ring: &mut [i64],
+    sample: i32,
+    sum: &mut [i64],
+) -> u16
+    ensures { λ r. ⌜ lentSample r (now (state .exit)) (now (ring .exit)) (now (sum .exit)) ≡ sumSampleOf (now (state .entry)) (now (ring .entry)) sample (now (sum .entry)) ⌝ }
+{
+    lent::sum_sample(state, ring, sample, sum)
 }

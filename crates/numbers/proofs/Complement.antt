@@ -13,7 +13,7 @@ use Rattle.numbers.specs.Signed.{half, signed, wordOf, wrapped}
 use Rattle.bools.proofs.Tests.{cases, pick-elim}
 
 module _ (k : ℕ) where
-  half-pos : 0 < half k
+  pub half-pos : 0 < half k
   half-pos = pow-pos (k - 1)
 
   pub word-lt : (z : ℤ) → wordOf k z < 2 * half k
@@ -77,6 +77,12 @@ complement (suc n) = rw zero-add
 pub complement-back : (n : ℕ) → negsuc 0 -ℤ negsuc n ≡ pos n
 complement-back n = +ℤ-comm (negsuc 0) (pos (suc n)) ∙ -ℤ-one (pos (suc n))
 
+-- a word from the half on, as its complement's complement
+pub signed-high : (k x : ℕ) → half k ≤ x → negsuc 0 -ℤ pos (2 * half k - 1 - x) ≡ signed k x
+signed-high k x h =
+    let e : 2 * half k - 1 - x ≡ 2 * half k - (x + 1) = omega arith in
+    rw (complement (2 * half k - 1 - x), le-ltb x (half k) h) (ap negsuc e)
+
 -- a number by its sign
 pub of-nonneg : (z : ℤ) → leZ (pos 0) z ≡ true → z ≡ pos (mag z)
 of-nonneg (pos n) t = refl
@@ -85,3 +91,7 @@ of-nonneg (negsuc n) t = absurd (true≢false (sym t))
 pub of-negative : (z : ℤ) → leZ (pos 0) z ≡ false → z ≡ negsuc (mag z)
 of-negative (pos n) t = absurd (not-suc-le-zero (leb-false 0 n t))
 of-negative (negsuc n) t = refl
+
+-- the complement of a negative number
+pub flipped : (z : ℤ) → leZ (pos 0) z ≡ false → negsuc 0 -ℤ z ≡ pos (mag z)
+flipped z t = rw (of-negative z t) (complement-back (mag z))

@@ -1,2 +1,4 @@
+pub mod Adding
 pub mod Complement
+pub mod Reading
 pub mod Theorems

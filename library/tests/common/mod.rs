@@ -3,7 +3,7 @@
 use mirvacula::{Report, Stop};
 use reference::trace;
 
-/// How many random traces or captures: `NAME=n` in the environment sets another number.
+/// How many random traces, captures or sliding sums: `NAME=n` in the environment sets another number.
 pub fn number_of(name: &str, number: u64) -> u64 {
     std::env::var(name).ok().and_then(|n| n.parse().ok()).unwrap_or(number)
 }
@@ -15,7 +15,7 @@ pub fn all_agree(seeds: u64, compare: impl Fn(u64) -> Result<(), String>) {
 }
 
 /// The reference model's report, in the library's words.
-#[allow(dead_code)] // captures are compared without one
+#[allow(dead_code)] // captures and sliding sums are compared without one
 pub fn expected(report: trace::Report) -> Report {
     let trace::Report { stop, next, ticks, records, refused } = report;
     let stop = match stop {

@@ -1,10 +1,9 @@
--- `mirvacula_convert` meets its contract: the two numbers are set one after the other (`Swept`), or nothing was done.
-use native.Mathlib.Omega.{arith}
+-- `mirvacula_convert` meets its contract: the two numbers are set one after the other (`all-set`), or nothing was done.
 use mathlib.Core.List.{[], _∷_}
-use mathlib.Core.Path.{refl, sym, ap}
+use mathlib.Core.Path.{ap, sym}
 use borrow.Author.Needs.{needs}
 use borrow.Author.Tests.{eq-eqb, ne-eqb}
-use Rattle.lists.proofs.Sweep.{Swept, swept-all, swept-more, swept-none}
+use Rattle.lists.proofs.Setting.{all-set}
 use Rattle.mirvacula.specs.Converting.{answered, convertOf}
 use Rattle.mirvacula.proofs.mirvacula_convert.Statement.{statement}
 use Rattle.mirvacula.proofs.mirvacula_convert.Tie as tie
@@ -20,9 +19,8 @@ returns-2 c =
     let e = k .before .before in
     let xs = e .before .before .before .before .args .answer .now in
     let r = k .convert .result in
-    let s₁ : Swept (r .bytes ∷ r .frame ∷ []) xs 1 _ = swept-more 0 (swept-none _ xs (sym (e .if1 .left))) (omega arith) refl in
-    let s₂ : Swept (r .bytes ∷ r .frame ∷ []) xs 2 _ = swept-more 0 s₁ (omega arith) refl in
-    rw (eq-eqb _ _ (e .if1 .left), ← k .convert .ensures) (ap (answered (r .number) (k .convert .last .1 .0)) (swept-all s₂ (omega arith)))
+    rw (eq-eqb _ _ (e .if1 .left), ← k .convert .ensures)
+    (ap (answered (r .number) (k .convert .last .1 .0)) (all-set xs (r .bytes ∷ r .frame ∷ []) (sym (e .if1 .left))))
 
 pub mirvacula-convert-spec : {M : Type 1} → statement M
 mirvacula-convert-spec =

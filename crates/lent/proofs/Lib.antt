@@ -1,0 +1,3 @@
+pub mod Runs
+pub mod Theorems
+pub mod Worked

@@ -1,0 +1,3 @@
+pub mod Fed
+pub mod Fresh
+pub mod Sums
