@@ -1,4 +1,4 @@
--- Worked cases of sliding sums, written out by hand from document 02, CR 4; those of the longest windows are in worked/proofs/Sums.antt.
+-- Worked cases of sliding sums, written out by hand from document 02, CR 4; those of the longest windows are in bench/proofs/Sums.antt.
 use Prim.Native.Nat.{ℕ, _-_}
 use native.Mathlib.Omega.{arith}
 use mathlib.Core.List.{List, [], _∷_}

@@ -1,4 +1,3 @@
 pub mod Cases
 pub mod Computing
-pub mod Sums
 pub mod Worked
