@@ -1,1 +1,2 @@
 // The starred bench checks and the example trace, computed by the prover.
+#![tactic(auto)]

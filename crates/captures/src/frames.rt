@@ -10,7 +10,7 @@ ghost use Rattle.records.specs.Records.{number_at};
 pub const FRAME_BYTES: usize = 9;
 
 // A frame as its nine bytes stand: the first eight as one number, and the last. So two frames are compared by two numbers.
-#[derive(Drop)]
+#[derive(Clone, Copy)]
 pub struct Nine {
     pub head: u64,
     pub last: u8,
@@ -82,7 +82,7 @@ pub fn joins(x: Nine, times: u16, y: Nine) -> bool
 }
 
 // Whether a frame has a bad level, and the first that has, else 0; where none has, how many records the frames become, else 0.
-#[derive(Drop)]
+#[derive(Clone, Copy)]
 pub struct Scanned {
     pub bad: bool,
     pub frame: usize,

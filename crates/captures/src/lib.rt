@@ -1,4 +1,6 @@
 // Captures of the pulse recorder become traces of tick records. No crate is seen here.
+#![tactic(auto)]
+
 ghost use Rattle.std.specs.Prelude.{◌≡◌};
 ghost use Rattle.bools.specs.Pick.{pick};
 ghost use Rattle.captures.specs.Captures.{bad_level, conversion, conversion_of, no_room};
@@ -8,7 +10,7 @@ mod traces;
 
 // The answer of a conversion: the number of a refusal, 0 where it is done; the trace's length in bytes, 0 where it is refused; of a refusal
 // by 6 the frame, the first being 0, else 0.
-#[derive(Drop)]
+#[derive(Clone, Copy)]
 pub struct Converted {
     pub number: u16,
     pub bytes: usize,

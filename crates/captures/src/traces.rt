@@ -55,7 +55,7 @@ fn put_at(out: &mut [u8], at: usize, times: u16, x: Nine)
 {
     let end = at + RECORD_BYTES;
     let r = record_bytes(times, x);
-    bytes::copy(&r, &mut out[at..end]);
+    out[at..end].copy_from_slice(&r);
 }
 
 // The trace of a capture, over an output that has room for it; bytes past it stay. `scan` has gone the same way before, as the room has to

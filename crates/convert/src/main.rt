@@ -1,5 +1,7 @@
 // Turns the capture on standard input, at most 131,072 frames, into a trace on standard output. What is written for the bytes read is
 // `captures::convert`. A refusal is told on standard error and nothing is written; so is a failure to read or write.
+#![tactic(auto)]
+
 ghost use Rattle.std.specs.Prelude.{◌≡◌, length};
 
 use libc::{STDERR_FILENO, STDOUT_FILENO};

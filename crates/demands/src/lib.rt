@@ -1,1 +1,2 @@
 // The three demands, of what the library's functions return: definitions and proofs, no function.
+#![tactic(auto)]

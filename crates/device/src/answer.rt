@@ -5,7 +5,7 @@ ghost use Rattle.device.specs.Answer.{number_of};
 use crate::state::Crate;
 
 // Done, or the cause of refusal.
-#[derive(Drop)]
+#[derive(Clone, Copy)]
 pub enum Answer {
     Done,
     Memory,
@@ -36,14 +36,14 @@ impl Answer {
 }
 
 // The answer of a call and the crate as the call left it.
-#[derive(Drop)]
+#[derive(Clone, Copy)]
 pub struct Outcome {
     pub answer: Answer,
     pub state: Crate,
 }
 
 // The answer of a read and the word read, 0 where it was refused.
-#[derive(Drop)]
+#[derive(Clone, Copy)]
 pub struct Read {
     pub answer: Answer,
     pub word: u16,

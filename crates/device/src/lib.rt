@@ -1,4 +1,6 @@
 // The crate as one value, its registers by address, and the answers of calls.
+#![tactic(auto)]
+
 mod answer;
 mod map;
 mod state;

@@ -2,7 +2,7 @@
 ghost use Rattle.std.specs.Prelude.{◌≡◌, ◌≤◌};
 ghost use Rattle.device.specs.Map.{output_block, backplane_map, status_map, control_map, event_map, counter_map, decode_of};
 
-#[derive(Drop)]
+#[derive(Clone, Copy)]
 pub enum Register {
     Nothing,
     // read-only registers
@@ -23,7 +23,7 @@ pub enum Register {
     Word(u16),
 }
 
-#[derive(Drop)]
+#[derive(Clone, Copy)]
 pub enum Status {
     Module(u16),
     Negative(u16),
@@ -44,7 +44,7 @@ pub enum Status {
     Threshold(u16),
 }
 
-#[derive(Drop)]
+#[derive(Clone, Copy)]
 pub enum Setting {
     Mask(u16),
     WatchdogTimeout,

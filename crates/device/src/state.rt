@@ -4,7 +4,7 @@ use gates::Gate;
 use loader::{Loader, Queue};
 use watchdogs::Watchdog;
 
-#[derive(Drop)]
+#[derive(Clone, Copy)]
 pub struct Crate {
     pub counters: [Counter; 128],
     // registers 0x1600 to 0x161F, four bits a counter
@@ -17,7 +17,7 @@ pub struct Crate {
 }
 
 // What all counters share, so that every counter's sheet has it whole.
-#[derive(Drop)]
+#[derive(Clone, Copy)]
 pub struct Common {
     // registers 0x0801, 0x0A00, 0x0A01 and 0x0A02
     pub control: u16,
@@ -30,7 +30,7 @@ pub struct Common {
 }
 
 // What no counter sees.
-#[derive(Drop)]
+#[derive(Clone, Copy)]
 pub struct Rest {
     // registers 0x0630 to 0x0635, 0x0800, and 22 of each output's block
     pub masks: [u16; 6],
@@ -45,7 +45,7 @@ pub struct Rest {
 }
 
 // The last tag, the last accepted tag, and the last counter handled by the loader: 0x0900 to 0x0902 and 0x0904.
-#[derive(Drop)]
+#[derive(Clone, Copy)]
 pub struct Events {
     pub low: u16,
     pub high: u16,

@@ -3,7 +3,7 @@ ghost use Rattle.std.specs.Prelude.{◌≡◌, ◌-◌, ◌<◌};
 ghost use Rattle.gates.specs.Gate.{state_number, from_idle, from_prepare, from_open, from_waiting, from_error, from_recover, from_direct, next_state, in_prepare, timer_of, output_of, gate_step, with_timeout, with_mode, with_prepare, with_recover, with_prepare_pulse, with_recover_pulse, change_of, each_gate, bit_in, gate_bits, state_word};
 
 // The states in the order of the Manual's IDs 0 to 6; Open is the Manual's GATE.
-#[derive(Drop)]
+#[derive(Clone, Copy)]
 pub enum GateState {
     Idle,
     Prepare,
@@ -14,7 +14,7 @@ pub enum GateState {
     Direct,
 }
 
-#[derive(Drop)]
+#[derive(Clone, Copy)]
 pub struct Gate {
     pub state: GateState,
     pub timer: u32,
@@ -32,7 +32,7 @@ pub struct Gate {
 }
 
 // What all gates can do at once, each by a bit of its own: a tick, a write to 0x0802, 0x0A03 or 0x0A04, an event's pulses.
-#[derive(Drop)]
+#[derive(Clone, Copy)]
 pub enum GateChange {
     Tick,
     SetMode,
@@ -43,7 +43,7 @@ pub enum GateChange {
 }
 
 // What a word over all gates shows of each.
-#[derive(Drop)]
+#[derive(Clone, Copy)]
 pub enum GateBit {
     OutputBit,
     ErrorBit,

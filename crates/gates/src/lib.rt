@@ -1,4 +1,6 @@
 // Gates: the logic of one, and all twelve in one pass.
+#![tactic(auto)]
+
 mod gate;
 
 pub use gate::{

@@ -1,4 +1,6 @@
 // The six interlock outputs, and the scan of their selection words.
+#![tactic(auto)]
+
 mod scan;
 mod signals;
 

@@ -18,7 +18,7 @@ use device::{Answer, Crate, Rest};
 use gates::GateBit;
 
 // What a scan answers: for each output its level, and how many of its selection words were read; all 0 where it is refused.
-#[derive(Drop)]
+#[derive(Clone, Copy)]
 pub struct Scan {
     pub answer: Answer,
     pub levels: [u16; 6],

@@ -1,4 +1,6 @@
 // What the library's functions are lent as words by programs in C and Rust: the state of a sliding sum.
+#![tactic(auto)]
+
 ghost use Rattle.std.specs.Prelude.{[], ◌∷◌, ◌≡◌, length};
 ghost use Rattle.lent.specs.Sums.{lent_start, state_in, state_words, lent_sample, sum_sample_of, sum_start_of, sum_words, words_of};
 

@@ -1,4 +1,6 @@
 // The threshold memory, and the loader with its queue of requests.
+#![tactic(auto)]
+
 mod loader;
 mod memory;
 

@@ -4,21 +4,21 @@ ghost use Rattle.loader.specs.Loader.{pushed, oldest as loader_oldest, shifted, 
 
 use counters::Counter;
 
-#[derive(Drop)]
+#[derive(Clone, Copy)]
 pub struct Request {
     pub dataset: u16,
     pub group: u16,
 }
 
 // The first `waiting` places hold requests, the oldest first.
-#[derive(Drop)]
+#[derive(Clone, Copy)]
 pub struct Queue {
     pub places: [Request; 16],
     pub waiting: u16,
 }
 
 // While busy it works on the request and handles counter `next` in the next tick.
-#[derive(Drop)]
+#[derive(Clone, Copy)]
 pub struct Loader {
     pub busy: bool,
     pub request: Request,

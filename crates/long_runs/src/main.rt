@@ -1,4 +1,6 @@
 // Long runs, up to 10,737,418,245 ticks: raw counts past 16 bits, counts through both ends of 32 bits, and the top of the watchdogs.
+#![tactic(auto)]
+
 use device::Crate;
 use pages::Page;
 use playing::{begin, play_often, run_often, write};

@@ -1,5 +1,7 @@
 // The library for programs in C and Rust: a trace run from power-up, its report and its register image or the scan of its outputs as
 // numbers; a capture as a trace; the words that patch a counter; sliding sums.
+#![tactic(auto)]
+
 ghost use Rattle.std.specs.Prelude.{◌++◌, ◌≡◌, eqb, ◌<◌, get_or, length};
 ghost use Rattle.bools.specs.Pick.{pick};
 ghost use Rattle.device.specs.State.{machine};

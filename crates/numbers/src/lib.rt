@@ -1,4 +1,6 @@
 // Signed numbers of 32 bits, and their low and high words: what the crates above count with. Numbers of 64 bits and their words.
+#![tactic(auto)]
+
 mod signed;
 mod wide;
 

@@ -1,4 +1,6 @@
 // A page of text, and numbers in digits on it.
+#![tactic(auto)]
+
 mod digits;
 mod page;
 

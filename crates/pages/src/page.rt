@@ -3,7 +3,7 @@ ghost use Rattle.std.specs.Prelude.{◌≡◌, [], ◌∷◌, ◌++◌, ◌≤�
 ghost use Rattle.pages.specs.Page.{written, cut};
 
 // 256 bytes, of which the first `length` are written.
-#[derive(Drop)]
+#[derive(Clone, Copy)]
 pub struct Page {
     pub bytes: [u8; 256],
     pub length: usize,

@@ -1,4 +1,6 @@
 // The words that patch a counter, for users who write registers: of its input register, and of a group register with its group.
+#![tactic(auto)]
+
 ghost use Rattle.std.specs.Prelude.{◌≡◌};
 ghost use Rattle.patching.specs.Patching.{group_place, group_word_of, input_word_of};
 

@@ -1,4 +1,6 @@
 // What the programs that are run only share: traces of files played to a crate, and pages on standard output.
+#![tactic(auto)]
+
 mod file;
 mod page;
 

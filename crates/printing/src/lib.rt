@@ -1,4 +1,6 @@
 // The bytes that the program prints: a page with the report of a run, both overflow blocks and the outputs.
+#![tactic(auto)]
+
 mod program;
 mod report;
 

@@ -1,4 +1,6 @@
 // The records of a trace, and why a run of them stops.
+#![tactic(auto)]
+
 ghost use Rattle.std.specs.Prelude.{◌≡◌};
 ghost use Rattle.records.specs.Stops.{stop_number};
 
@@ -7,7 +9,7 @@ mod records;
 pub use records::{next_at, record_at};
 
 // Why a run ends. Of the refusals specs/Stops.antt has the numbers.
-#[derive(Drop)]
+#[derive(Clone, Copy)]
 pub enum Stop {
     End,
     Spent,
@@ -36,7 +38,7 @@ impl Stop {
 }
 
 // What stands at an offset of a trace: nothing, a malformed record, or a record.
-#[derive(Drop)]
+#[derive(Clone, Copy)]
 pub enum Record {
     AtEnd,
     Malformed(Stop),

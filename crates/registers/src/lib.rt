@@ -1,4 +1,6 @@
 // The calls on a crate, and the refusals of each.
+#![tactic(auto)]
+
 mod calls;
 
 pub use calls::{download, power_up, read, scan, tag, tick, write};

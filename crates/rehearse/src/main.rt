@@ -1,5 +1,7 @@
 // Runs the trace on standard input, at most 65,536 bytes of it, and prints what it leaves.
 // What is printed for the bytes read is `printing::rehearse`; a failure is told on standard error.
+#![tactic(auto)]
+
 use libc::{STDERR_FILENO, STDOUT_FILENO};
 
 fn main() {

@@ -1,4 +1,6 @@
 // Runs the checks that document 01 wants run, each from power-up, and prints the register that shows the result.
+#![tactic(auto)]
+
 use pages::Page;
 use playing::write;
 

@@ -1,6 +1,8 @@
 // The stored traces of the file `traces`: each is run from power-up, and its report is printed with a digest of the registers and the
 // memory that it leaves. What is expected is what the reference model prints. In the file a trace stands behind its length in four
 // bytes and its budget of ticks in eight, high byte first.
+#![tactic(auto)]
+
 use device::Crate;
 use pages::Page;
 use playing::write;

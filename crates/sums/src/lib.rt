@@ -1,9 +1,11 @@
 // Sliding sums: of the samples that are fed in, the sum over the last W. No crate is seen here.
+#![tactic(auto)]
+
 ghost use Rattle.std.specs.Prelude.{◌≡◌, ◌+◌, ◌%◌, ◌<◌, ◌≤◌, length, pos, slice_index_or, slice_set};
 ghost use Rattle.sums.specs.Sums.{cleared, is_ready, next_sum, sample_of, sample_outcome, sliding, start_of, start_outcome};
 
 // The window W, the place of the oldest sample in the ring, and the sum.
-#[derive(Drop)]
+#[derive(Clone, Copy)]
 pub struct Sliding {
     pub window: usize,
     pub place: usize,
@@ -11,14 +13,14 @@ pub struct Sliding {
 }
 
 // The answer of a start: 0 or the number of its refusal, and the state, of window 0 where it is refused.
-#[derive(Drop)]
+#[derive(Clone, Copy)]
 pub struct Started {
     pub number: u16,
     pub state: Sliding,
 }
 
 // The answer of a sample: 0 or the number of its refusal, the sum, 0 where it is refused, and the state.
-#[derive(Drop)]
+#[derive(Clone, Copy)]
 pub struct Sampled {
     pub number: u16,
     pub sum: i64,

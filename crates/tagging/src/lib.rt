@@ -1,4 +1,6 @@
 // What an event tag answers and does.
+#![tactic(auto)]
+
 mod events;
 
 pub use events::{tag_answer, tag_crate};

@@ -1,11 +1,13 @@
 // Traces: the run of a trace with a budget of ticks, and its report.
+#![tactic(auto)]
+
 mod running;
 
 use device::Crate;
 use records::Stop;
 pub use running::run;
 
-#[derive(Drop)]
+#[derive(Clone, Copy)]
 pub struct Report {
     pub stop: Stop,
     // the offset of the next record
@@ -16,7 +18,7 @@ pub struct Report {
 }
 
 // A run on its way: the crate and the report so far, and whether the run goes on.
-#[derive(Drop)]
+#[derive(Clone, Copy)]
 pub struct Progress {
     pub state: Crate,
     pub report: Report,

@@ -81,7 +81,7 @@ fn pass(mut r: Report, t: &[u8], ticks: u64, refused: bool) -> Report
 }
 
 // The crate, and the ticks still to be made.
-#[derive(Drop)]
+#[derive(Clone, Copy)]
 struct Ahead {
     state: Crate,
     left: u64,

@@ -1,4 +1,6 @@
 // Bits and fields in words: what the crates above decode and pack with.
+#![tactic(auto)]
+
 mod field;
 
 pub use field::{
