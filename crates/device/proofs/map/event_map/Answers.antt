@@ -1,0 +1,39 @@
+-- `event_map` meets its contract: each return is the definition's row by the tests on the way (`tests`).
+use Rattle.bools.proofs.Tests.{tests}
+use Rattle.device.proofs.map.event_map.Goals as goal
+
+pub returns-then-a-lt2305 : goal.returns-then-a-lt2305
+returns-then-a-lt2305 c = search tests
+
+pub returns-then-a-lt2306 : goal.returns-then-a-lt2306
+returns-then-a-lt2306 c = search tests
+
+pub returns-then-a-lt2307 : goal.returns-then-a-lt2307
+returns-then-a-lt2307 c = search tests
+
+pub returns-then-a-lt2308 : goal.returns-then-a-lt2308
+returns-then-a-lt2308 c = search tests
+
+pub returns-then-a-lt2309 : goal.returns-then-a-lt2309
+returns-then-a-lt2309 c = search tests
+
+pub returns-then-a-lt2560 : goal.returns-then-a-lt2560
+returns-then-a-lt2560 c = search tests
+
+pub returns-then-a-lt2561 : goal.returns-then-a-lt2561
+returns-then-a-lt2561 c = search tests
+
+pub returns-then-a-lt2562 : goal.returns-then-a-lt2562
+returns-then-a-lt2562 c = search tests
+
+pub returns-then-a-lt2563 : goal.returns-then-a-lt2563
+returns-then-a-lt2563 c = search tests
+
+pub returns-then-a-lt2564 : goal.returns-then-a-lt2564
+returns-then-a-lt2564 c = search tests
+
+pub returns-then-a-lt2565 : goal.returns-then-a-lt2565
+returns-then-a-lt2565 c = search tests
+
+pub returns : goal.returns
+returns c = search tests

@@ -1,0 +1,8 @@
+-- `gate_after` meets its contract, by the test for PREPARE.
+use Rattle.gate_leaps.proofs.leap.gate_after.Goals as goal
+
+pub returns-then-in_prepare : goal.returns-then-in_prepare
+returns-then-in_prepare c = rw (← c.in_prepare.ensures, c.if-in_prepare.true, c.less-timer.ensures)
+
+pub returns-else-in_prepare : goal.returns-else-in_prepare
+returns-else-in_prepare c = rw (← c.in_prepare.ensures, c.if-in_prepare.false)

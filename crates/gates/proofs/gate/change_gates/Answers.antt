@@ -1,0 +1,27 @@
+-- `change_gates` meets its contract: the loop changes one gate a turn (`Stepped`).
+use Prim.Native.Nat.{◌-◌}
+use native.Mathlib.Omega.{arith}
+use mathlib.Core.Path.{◌≡◌}
+use borrow.Author.Rules.{rules}
+use lib.ListN.{length}
+use Rattle.words.specs.Word.{bit}
+use Rattle.lists.proofs.Sweep.{step_all, step_more, step_none}
+use Rattle.gates.specs.Gate.{each_gate, gate0}
+use Rattle.gates.proofs.gate.change_gates.Goals as goal
+
+pub loop-i-init : goal.loop-i-init
+loop-i-init c =
+    let full : length c.args.gates ≡ 12 = search rules in (full, step_none 12 gate0 _ _ full)
+
+pub loop-i-preserved : goal.loop-i-preserved
+loop-i-preserved c =
+    let h = c.loop-i.invariant in
+    (h.0, step_more 12 gate0 _ _ h.0 h.1 (omega arith) (rw c.bit.ensures at c.change.ensures))
+
+pub returns : goal.returns
+unfolding each_gate
+returns c =
+    let h = c.loop-i.invariant in step_all 12 gate0 _ h.0 h.1 (omega arith)
+
+pub loop-i-smaller : goal.loop-i-smaller
+loop-i-smaller c = omega arith

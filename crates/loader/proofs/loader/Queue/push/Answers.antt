@@ -1,0 +1,6 @@
+-- `push` meets its contract: it stores one place and counts one more.
+use mathlib.Core.Path.{refl}
+use Rattle.loader.proofs.loader.Queue.push.Goals as goal
+
+pub returns : goal.returns
+returns c = refl

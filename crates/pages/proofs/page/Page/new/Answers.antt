@@ -1,0 +1,6 @@
+-- `Page::new` meets its contract: nothing is written.
+use mathlib.Core.Path.{refl}
+use Rattle.pages.proofs.page.Page.new.Goals as goal
+
+pub returns : goal.returns
+returns c = refl

@@ -1,0 +1,56 @@
+-- `status_word` meets its contract: in each arm the register is known, and the callee ensures its word.
+use Rattle.reading.proofs.reading.status_word.Goals as goal
+
+pub outputs-requires : goal.outputs-requires
+outputs-requires c = ensures
+
+pub returns-in-Module : goal.returns-in-Module
+returns-in-Module c = rw c.in-Module.is c.module_word.ensures
+
+pub returns-in-Negative : goal.returns-in-Negative
+returns-in-Negative c = rw c.in-Negative.is c.overflows.ensures
+
+pub returns-in-Positive : goal.returns-in-Positive
+returns-in-Positive c = rw c.in-Positive.is c.overflows-in-Positive.ensures
+
+pub returns-in-GateErrors : goal.returns-in-GateErrors
+returns-in-GateErrors c = rw c.in-GateErrors.is c.gate_bits.ensures
+
+pub returns-in-WatchdogErrors : goal.returns-in-WatchdogErrors
+returns-in-WatchdogErrors c = rw c.in-WatchdogErrors.is c.watchdog_bits.ensures
+
+pub returns-in-GateInputs : goal.returns-in-GateInputs
+returns-in-GateInputs c = rw c.in-GateInputs.is
+
+pub returns-in-GateOutputs : goal.returns-in-GateOutputs
+returns-in-GateOutputs c = rw c.in-GateOutputs.is c.gate_bits-in-GateOutputs.ensures
+
+pub returns-in-Outputs : goal.returns-in-Outputs
+returns-in-Outputs c = rw c.in-Outputs.is c.outputs.ensures
+
+pub returns-in-GateStates : goal.returns-in-GateStates
+returns-in-GateStates c = rw c.in-GateStates.is c.gate_states.ensures
+
+pub returns-in-TagLow : goal.returns-in-TagLow
+returns-in-TagLow c = rw c.in-TagLow.is
+
+pub returns-in-TagHigh : goal.returns-in-TagHigh
+returns-in-TagHigh c = rw c.in-TagHigh.is
+
+pub returns-in-Code : goal.returns-in-Code
+returns-in-Code c = rw c.in-Code.is
+
+pub returns-in-LoaderState : goal.returns-in-LoaderState
+returns-in-LoaderState c = rw c.in-LoaderState.is c.loader_state.ensures
+
+pub returns-in-LoaderCounter : goal.returns-in-LoaderCounter
+returns-in-LoaderCounter c = rw c.in-LoaderCounter.is
+
+pub returns-in-Count : goal.returns-in-Count
+returns-in-Count c = rw c.in-Count.is c.count_word.ensures
+
+pub returns-in-Raw : goal.returns-in-Raw
+returns-in-Raw c = rw c.in-Raw.is c.raw_word.ensures
+
+pub returns-in-Threshold : goal.returns-in-Threshold
+returns-in-Threshold c = rw c.in-Threshold.is c.threshold_word.ensures

@@ -1,0 +1,18 @@
+-- `watchdog_bits` meets its contract: past the block no flag is set (`pack_past`).
+use Prim.Native.Nat.{◌*◌}
+use native.Mathlib.Omega.{arith}
+use mathlib.Core.Bool.{Bool, true, false}
+use mathlib.Core.Path.{◌≡◌, refl, sym}
+use Rattle.watchdogs.specs.Watchdog.{flag_of, watchdog0, watchdog_at, watchdog_word}
+use Rattle.reading.proofs.Past.{pack_past}
+use Rattle.reading.proofs.reading.watchdog_bits.Goals as goal
+
+not_set : (error : Bool) → flag_of error watchdog0 ≡ false
+not_set true = refl
+not_set false = refl
+
+pub returns : goal.returns
+unfolding watchdog_word watchdog_at
+returns c =
+    let a = c.args in
+    sym (pack_past (flag_of a.error) watchdog0 a.watchdogs (16 * a.k) (not_set a.error) (omega arith))

@@ -1,0 +1,14 @@
+-- `tag` meets its contract, by the length of the memory.
+use borrow.Author.Tests.{eq-eqb, ne_eqb}
+use Rattle.registers.specs.Calls.{answer, call_answer, called, step}
+use Rattle.registers.proofs.calls.tag.Goals as goal
+
+pub returns-then-mem-ne16384 : goal.returns-then-mem-ne16384
+unfolding answer step
+returns-then-mem-ne16384 c = (rw (ne_eqb _ _ c.if-mem-ne16384.true), rw (ne_eqb _ _ c.if-mem-ne16384.true))
+
+pub returns : goal.returns
+unfolding answer step call_answer called
+returns c =
+    let whole = eq-eqb _ _ c.if-mem-ne16384.false in
+    (rw (whole, c.tag_crate-next.ensures, c.tag_answer-answer.ensures), rw whole)
