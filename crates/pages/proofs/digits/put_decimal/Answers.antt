@@ -3,4 +3,5 @@ use Rattle.pages.specs.Text.{decimal}
 use Rattle.pages.proofs.digits.put_decimal.Goals as goal
 
 pub returns : goal.returns
+unfolding decimal
 returns c = c.put_decimal_in.ensures
