@@ -4,7 +4,7 @@
 
 ghost use Rattle.std.specs.Prelude.{◌≡◌, length};
 
-use libc::{STDERR_FILENO, STDOUT_FILENO};
+use std::io::Stderr;
 
 // Nine bytes a frame.
 const LIMIT: usize = 1_179_648;
@@ -24,46 +24,56 @@ fn trace_space() -> [u8; 1_835_008]
 }
 
 // Words on standard error.
-fn tell(words: &[u8]) {
-    io::write_all(STDERR_FILENO, words);
+fn tell(stderr: &Stderr, words: &[u8]) {
+    let _ = stderr.write_all(words);
 }
 
 // A refusal as a sentence, with its number; frames are counted from 0.
-fn tell_refusal(number: u16, frame: usize) {
+fn tell_refusal(stderr: &Stderr, number: u16, frame: usize) {
     if number == 12 {
-        tell(b"convert: the capture is not of whole frames of nine bytes (12)\n");
+        tell(
+            stderr,
+            b"convert: the capture is not of whole frames of nine bytes (12)\n",
+        );
         return;
     }
     if number == 6 {
-        tell(b"convert: frame ");
-        io::print_decimal(STDERR_FILENO, frame as u64);
-        tell(b": a line that does not exist (6)\n");
+        tell(stderr, b"convert: frame ");
+        let _ = stderr.print(frame);
+        tell(stderr, b": a line that does not exist (6)\n");
         return;
     }
     // the room for a trace is enough for every capture that is read, so this is not met
-    tell(b"convert: the output is shorter than the trace (13)\n");
+    tell(
+        stderr,
+        b"convert: the output is shorter than the trace (13)\n",
+    );
 }
 
-fn main() {
+fn main(rt: HostRuntime) {
+    let stderr = rt.stderr();
     let mut buf = capture_space();
-    let input = standard_input::read_input(&mut buf);
+    let input = standard_input::read_input(&mut rt.stdin(), &mut buf);
     if input.failed {
-        tell(b"convert: cannot read standard input\n");
+        tell(&stderr, b"convert: cannot read standard input\n");
         return;
     }
     let n = input.length;
     if LIMIT < n {
-        tell(b"convert: the capture is longer than 1179648 bytes (131072 frames)\n");
+        tell(
+            &stderr,
+            b"convert: the capture is longer than 1179648 bytes (131072 frames)\n",
+        );
         return;
     }
     let mut out = trace_space();
     let made = captures::convert(&buf[..n], &mut out);
     if made.number != 0 {
-        tell_refusal(made.number, made.frame);
+        tell_refusal(&stderr, made.number, made.frame);
         return;
     }
     let bytes = made.bytes;
-    if !io::write_all(STDOUT_FILENO, &out[..bytes]) {
-        tell(b"convert: cannot write standard output\n");
+    if rt.write_all(&out[..bytes]).is_err() {
+        tell(&stderr, b"convert: cannot write standard output\n");
     }
 }

@@ -4,5 +4,5 @@
 mod file;
 mod page;
 
-pub use file::{begin, load, play_often, run_often};
+pub use file::{begin, load, open_file, play_often, run_often};
 pub use page::write;

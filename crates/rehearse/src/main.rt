@@ -2,20 +2,18 @@
 // What is printed for the bytes read is `printing::rehearse`; a failure is told on standard error.
 #![tactic(auto)]
 
-use libc::{STDERR_FILENO, STDOUT_FILENO};
-
-fn main() {
+fn main(rt: HostRuntime) {
     let mut buf = io::large_buffer();
-    let input = standard_input::read_input(&mut buf);
+    let input = standard_input::read_input(&mut rt.stdin(), &mut buf);
     if input.failed {
-        io::write_all(STDERR_FILENO, b"rehearse: cannot read standard input\n");
+        let _ = rt.eprintln("rehearse: cannot read standard input");
         return;
     }
     let n = input.length;
     let page = printing::rehearse(&buf[..n]);
     let bytes = page.bytes;
     let length = page.length;
-    if !io::write_all(STDOUT_FILENO, &bytes[..length]) {
-        io::write_all(STDERR_FILENO, b"rehearse: cannot write standard output\n");
+    if rt.write_all(&bytes[..length]).is_err() {
+        let _ = rt.eprintln("rehearse: cannot write standard output");
     }
 }

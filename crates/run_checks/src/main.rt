@@ -3,21 +3,22 @@
 
 use pages::Page;
 use playing::write;
+use std::rt::Files;
 
 // The word of a register after the trace of a file, in a line behind the check's name.
-fn check(name: &[u8], file: &[u8], address: u16) {
+fn check(rt: &(impl Files + Print + Eprint), name: &[u8], file: &[u8], address: u16) {
     let mut mem = [0u16; 16384];
-    let state = playing::begin(&mut mem, file);
+    let state = playing::begin(rt, &mut mem, file);
     let read = registers::read(state, &mem, address);
     let line = pages::put_hexadecimal(Page::new().put_text(name), 4, read.word as u64);
-    write(line.put(b'\n'));
+    write(rt, line.put(b'\n'));
 }
 
 // 01's example, as the program prints it.
-fn example() {
+fn example(rt: &(impl Files + Print + Eprint)) {
     let mut buf = io::large_buffer();
-    let n = playing::load(b"example", &mut buf);
-    write(printing::rehearse(&buf[..n]));
+    let n = playing::load(rt, b"example", &mut buf);
+    write(rt, printing::rehearse(&buf[..n]));
 }
 
 // The tick of the first rise of a test signal, counted by counter 0 on a direct gate; 0 if there is none in 20,000.
@@ -41,7 +42,7 @@ fn first_rise(signal: u16) -> u64 {
 }
 
 // The first rises of the nine test signals.
-fn first_rises() {
+fn first_rises(rt: &impl Print) {
     let mut line = Page::new().put_text(b"first rises of test signals 55 to 63:");
     let mut signal: u16 = 55;
     while signal < 64 {
@@ -49,30 +50,43 @@ fn first_rises() {
         line = pages::put_decimal(line.put(b' '), tick);
         signal += 1;
     }
-    write(line.put(b'\n'));
+    write(rt, line.put(b'\n'));
 }
 
 // Watchdog errors of inputs 0 to 15, and states of gates 0 to 3.
-fn timeouts() {
-    check(b"watchdogs, rises 128 apart: ", b"rises_128_apart", 0x0711);
-    check(b"watchdogs, rises 129 apart: ", b"rises_129_apart", 0x0711);
-    check(b"gates, 16383 low ticks: ", b"low_16383", 0x071A);
-    check(b"gates, 16384 low ticks: ", b"low_16384", 0x071A);
+fn timeouts(rt: &(impl Files + Print + Eprint)) {
+    check(
+        rt,
+        b"watchdogs, rises 128 apart: ",
+        b"rises_128_apart",
+        0x0711,
+    );
+    check(
+        rt,
+        b"watchdogs, rises 129 apart: ",
+        b"rises_129_apart",
+        0x0711,
+    );
+    check(rt, b"gates, 16383 low ticks: ", b"low_16383", 0x071A);
+    check(rt, b"gates, 16384 low ticks: ", b"low_16384", 0x071A);
 }
 
 // The count of counter 0, and the state of its gate.
-fn autoreset() {
+fn autoreset(rt: &(impl Files + Print + Eprint)) {
     check(
+        rt,
         b"AUTORESET, gate opened twice, count: ",
         b"gate_reopened",
         0x1200,
     );
     check(
+        rt,
         b"AUTORESET, gate in ERROR, count: ",
         b"gate_in_error",
         0x1200,
     );
     check(
+        rt,
         b"AUTORESET, gate in ERROR, gates: ",
         b"gate_in_error",
         0x071A,
@@ -80,23 +94,25 @@ fn autoreset() {
 }
 
 // The low words of the positive thresholds of counters 0 and 127.
-fn reload() {
+fn reload(rt: &(impl Files + Print + Eprint)) {
     check(
+        rt,
         b"written during a reload, counter 0: ",
         b"written_during_reload",
         0x1800,
     );
     check(
+        rt,
         b"written during a reload, counter 127: ",
         b"written_during_reload",
         0x19FC,
     );
 }
 
-fn main() {
-    example();
-    timeouts();
-    first_rises();
-    reload();
-    autoreset();
+fn main(rt: HostRuntime) {
+    example(&rt);
+    timeouts(&rt);
+    first_rises(&rt);
+    reload(&rt);
+    autoreset(&rt);
 }

@@ -6,6 +6,7 @@
 use device::Crate;
 use pages::Page;
 use playing::write;
+use std::io::Read;
 
 // One word more in a digest.
 fn fold(d: u32, word: u16) -> u32 {
@@ -35,7 +36,7 @@ fn fold_memory(start: u32, mem: &[u16; 16384]) -> u32 {
 }
 
 // One stored trace.
-fn run(trace: &[u8], budget: u64) {
+fn run(rt: &impl Print, trace: &[u8], budget: u64) {
     let mut mem = [0u16; 16384];
     let start = registers::power_up(&mut mem);
     let first = start.state;
@@ -44,7 +45,10 @@ fn run(trace: &[u8], budget: u64) {
     let d = fold_memory(fold_registers(0, state, &mem), &mem);
     let report = end.report;
     let told = printing::put_report(Page::new(), report);
-    write(pages::put_hexadecimal(told.put_text(b"DIGEST "), 8, d as u64).put(b'\n'));
+    write(
+        rt,
+        pages::put_hexadecimal(told.put_text(b"DIGEST "), 8, d as u64).put(b'\n'),
+    );
 }
 
 // A number of up to 63 bits and one byte more.
@@ -66,19 +70,19 @@ fn number(bytes: &[u8; 12], at: usize, n: usize) -> u64 {
 }
 
 // A trace as long as the buffer, if the file has it.
-fn read_and_run(fd: i32, buf: &mut [u8], budget: u64) -> bool {
-    let got = io::read_full(fd, buf);
+fn read_and_run<F: Read>(rt: &impl Print, file: &mut F, buf: &mut [u8], budget: u64) -> bool {
+    let got = standard_input::read_input(file, buf).length;
     if got < buf.len() {
         return false;
     }
-    run(buf, budget);
+    run(rt, buf, budget);
     true
 }
 
 // The next trace of the file, if there is one.
-fn run_next(fd: i32) -> bool {
+fn run_next<F: Read>(rt: &impl Print, file: &mut F) -> bool {
     let mut head = [0u8; 12];
-    if io::read_full(fd, &mut head) < 12 {
+    if standard_input::read_input(file, &mut head).length < 12 {
         return false;
     }
     let length = number(&head, 0, 4) as usize;
@@ -87,19 +91,16 @@ fn run_next(fd: i32) -> bool {
         return false;
     }
     let mut buf = io::large_buffer();
-    read_and_run(fd, &mut buf[..length], budget)
+    read_and_run(rt, file, &mut buf[..length], budget)
 }
 
 // All traces of the file.
-fn main() {
-    let fd = os::open_read(b"traces");
-    if fd < 0 {
-        os::fail(b"traces");
+fn main(rt: HostRuntime) {
+    let Some(mut file) = playing::open_file(&rt, b"traces") else {
         return;
-    }
+    };
     let mut left: u64 = 10000;
-    while 0 < left && run_next(fd) {
+    while 0 < left && run_next(&rt, &mut file) {
         left -= 1;
     }
-    libc::close(fd);
 }

@@ -1,4 +1,5 @@
-use Prim.Native.Nat.{◌-◌}
+-- `first_rise` is safe and ends: the measure is the ticks left.
+use Rattle.std.proofs.Common.{◌-◌}
 use Rattle.run_checks.proofs.first_rise.Given as goal
 
 abbrev pub invariant-loop-tick : goal.invariant-loop-tick

@@ -1,4 +1,5 @@
-use Prim.Native.Nat.{◌-◌}
+-- `fold_memory` is safe and ends: the measure is the words left.
+use Rattle.std.proofs.Common.{◌-◌}
 use Rattle.stored_traces.proofs.fold_memory.Given as goal
 
 abbrev pub invariant-loop-i : goal.invariant-loop-i

@@ -1,4 +1,5 @@
-use Prim.Native.Nat.{◌-◌}
+-- `fold_registers` is safe and ends: the measure is the registers left.
+use Rattle.std.proofs.Common.{◌-◌}
 use Rattle.stored_traces.proofs.fold_registers.Given as goal
 
 abbrev pub invariant-loop-address : goal.invariant-loop-address

@@ -1,4 +1,5 @@
-use Prim.Native.Nat.{◌-◌}
+-- `number` is safe and ends: the measure is the bytes left.
+use Rattle.std.proofs.Common.{◌-◌}
 use Rattle.stored_traces.proofs.number.Given as goal
 
 abbrev pub invariant-loop-k : goal.invariant-loop-k

@@ -1,2 +1,0 @@
--- `number` is safe and ends: the measure is the bytes left.
-use Rattle.stored_traces.proofs.number.Goals as goal
