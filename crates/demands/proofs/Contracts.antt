@@ -15,23 +15,23 @@ use Rattle.device.proofs.answer.Answer.number.Reads as number_reads
 use Rattle.records.proofs.Stop.number.Reads as stop_number_reads
 use Rattle.demands.specs.Returned.{Looked, Numbered, Powered, Ran, Returned, Scanned, StopNumbered}
 
--- a holds the arguments in their order, s what the lent ones are at the end
+-- a holds the arguments in their order, s what those lent to be written are at the end; a memory that is lent to be read alone stays as it was
 pub power_up_contract : power_up_reads.Learnt ≡ (λ κs a r s. Powered a.0.now r s.0.now)
 power_up_contract = refl
 
-pub read_contract : read_reads.Learnt ≡ (λ κs a q s. Looked (machine a.0 a.1.0.now) a.1.1.0 q s.1.0.now)
+pub read_contract : read_reads.Learnt ≡ (λ κs a q s. Looked (machine a.0 a.1.0.now) a.1.1.0 q a.1.0.now)
 read_contract = refl
 
-pub scan_contract : scan_reads.Learnt ≡ (λ κs a q s. Scanned (machine a.0 a.1.0.now) q s.1.0.now)
+pub scan_contract : scan_reads.Learnt ≡ (λ κs a q s. Scanned (machine a.0 a.1.0.now) q a.1.0.now)
 scan_contract = refl
 
 pub write_contract : write_reads.Learnt ≡ (λ κs a r s. Returned (machine a.0 a.1.0.now) (write a.1.1.0 a.1.1.1.0) r s.1.0.now)
 write_contract = refl
 
-pub tag_contract : tag_reads.Learnt ≡ (λ κs a r s. Returned (machine a.0 a.1.0.now) (tag a.1.1.0) r s.1.0.now)
+pub tag_contract : tag_reads.Learnt ≡ (λ κs a r s. Returned (machine a.0 a.1.0.now) (tag a.1.1.0) r a.1.0.now)
 tag_contract = refl
 
-pub tick_contract : tick_reads.Learnt ≡ (λ κs a r s. Returned (machine a.0 a.1.0.now) (tick a.1.1.0 a.1.1.1.0) r s.1.0.now)
+pub tick_contract : tick_reads.Learnt ≡ (λ κs a r s. Returned (machine a.0 a.1.0.now) (tick a.1.1.0 a.1.1.1.0) r a.1.0.now)
 tick_contract = refl
 
 pub download_contract : download_reads.Learnt ≡

@@ -1,5 +1,6 @@
 pub mod Addresses
 pub mod Computing
+pub mod Contracts
 pub mod Examples
 pub mod Fed
 pub mod Finishes
@@ -12,6 +13,7 @@ pub mod Projection
 pub mod Raw
 pub mod Reached
 pub mod ReadBack
+pub mod Returned
 pub mod Scans
 pub mod Settled
 pub mod SettledLists

@@ -4,6 +4,7 @@ pub mod OwnPart
 pub mod Raw
 pub mod Reachable
 pub mod Requests
+pub mod Returned
 pub mod Settled
 pub mod Sheet
 pub mod Shows
