@@ -29,7 +29,10 @@ number_bytes (suc n) v p q at e h =
     let d : v / 256 < 256 ^ n = (div-lt_iff_lt-mul {k = 256} (lit< tt)).1 (rw pow-suc at h) in
     let b : get_or (p ++ (bytes n (v / 256) ++ (v % 256 ∷ q))) (at + n) 0 ≡ v % 256 =
     rw (← e, get_or-append-add) (get_or_at (bytes n (v / 256)) (v % 256) q 0 n (length_bytes n (v / 256))) in
-    rw (append_assoc, number_bytes n (v / 256) p (v % 256 ∷ q) at e d, b) (div-add-mod' v 256)
+    let s : bytes (suc n) v ++ q ≡ bytes n (v / 256) ++ (v % 256 ∷ q) = append_assoc (bytes n (v / 256)) (v % 256 ∷ []) q in
+    let f : number_at (p ++ (bytes (suc n) v ++ q)) at n ≡ v / 256 =
+    ap (λ (u : List ℕ). number_at (p ++ u) at n) s ∙ number_bytes n (v / 256) p (v % 256 ∷ q) at e d in
+    rw (f, s, b) (div-add-mod' v 256)
 
 -- ---- reading behind other bytes
 

@@ -1,5 +1,5 @@
 -- Worked cases of leaps, counted by hand from document 01; and a crate that meets what `leap_is` asks, with what it then says.
-use Prim.Native.Nat.{ℕ, suc, ◌*◌, ◌^◌, ◌<◌}
+use Prim.Native.Nat.{ℕ, ◌^◌, ◌<◌}
 use mathlib.Core.Bool.{Bool, true, false}
 use mathlib.Core.List.{List, [], ◌∷◌, ◌++◌}
 use mathlib.Core.Path.{◌≡◌, refl}

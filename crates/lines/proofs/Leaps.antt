@@ -13,7 +13,7 @@ use Rattle.words.specs.Word.{bit, bit_of}
 use Rattle.words.proofs.Packing.{bit_pack}
 use Rattle.bools.proofs.Tests.{and_not, cases}
 use Rattle.lists.specs.Table.{any}
-use Rattle.lists.proofs.Tables.{any_each, each_stays, each_then, get_or_each}
+use Rattle.lists.proofs.Tables.{any_each, any_found, each_stays, each_then, get_or_each}
 use Rattle.lines.specs.Leap.{leap_phases, low_phases, phase_after, phase_total, rises_in}
 use Rattle.lines.specs.Lines.{frequencies, frequency, phase_limit, phase_step, phase_sum, rise_of, rises_of, step_phases, test_rise}
 use Rattle.lines.specs.Raw.{count_rises}
@@ -123,3 +123,8 @@ unfolding rises_in
 rises_none phases low u h =
     cases (ltb u 55) (λ e. rw e)
     (λ e. rw e (none_rise (u - 55) (get_or phases (u - 55) 0) (low.at (u - 55) (omega (arith, ltb-false u 55 e)))))
+
+-- a phase that has reached 125,000 is not low
+pub low_here : (phases : List ℕ) (i : ℕ) → i < 9 → 125000 ≤ get_or phases i 0 → low_phases phases ≡ false
+unfolding low_phases
+low_here phases i h l = rw (any_found 9 (λ j. leb 125000 (get_or phases j 0)) i h (le-leb _ _ l))

@@ -60,6 +60,7 @@ pub fn rises_in(phases: [u32; 9], k: u32) -> [u32; 64]
 }
 
 // Whether every phase is below 125,000.
+#[tactic(auto, using(crate::proofs::Leaps::low_here))]
 pub fn low_phases(phases: [u32; 9]) -> bool
     ensures { result ≡ low_phases phases }
 {

@@ -1,5 +1,5 @@
 -- A ring whose first words are cleared.
-use Rattle.std.proofs.Common.{◌≡◌, ℕ, ◌+◌, ◌<◌, ◌≤◌, List, ◌++◌, length, get_or, take, drop, replicate, ℤ, pos, ap, ◌∙◌, arith, length-append, length-drop, take_at}
+use Rattle.std.proofs.Common.{◌≡◌, ℕ, ◌<◌, ◌≤◌, List, ◌++◌, length, get_or, drop, replicate, ℤ, pos, ap, ◌∙◌, arith, length-append, length-drop, take_at}
 use lib.ListN.{get_or-append, get_or-replicate, length-replicate}
 use Rattle.lists.proofs.Sweep.{Swept}
 use Rattle.sums.specs.Sums.{cleared}

@@ -1,5 +1,5 @@
 -- What the test before a start and before a sample says.
-use Rattle.std.proofs.Common.{◌≡◌, ℕ, ◌<◌, ◌≤◌, Bool, true, false, ◌&&◌, ltb, leb, ltb-true, leb-true}
+use Rattle.std.proofs.Common.{◌≡◌, ℕ, ◌<◌, ◌≤◌, true, ◌&&◌, leb, ltb-true, leb-true}
 use Rattle.bools.proofs.Tests.{and_left, and_right}
 use Rattle.sums.specs.Sums.{is_ready, largest_window}
 

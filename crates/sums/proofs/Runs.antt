@@ -1,10 +1,10 @@
 -- Sums of samples since one start.
-use Rattle.std.proofs.Common.{◌≡◌, ℕ, true, false, List, [], ◌∷◌, ◌++◌, length, ℤ, sym, ap, ◌∙◌, arith}
+use Rattle.std.proofs.Common.{◌≡◌, ℕ, true, List, [], ◌∷◌, ◌++◌, length, ℤ, sym, ap, ◌∙◌, arith}
 use Rattle.bools.proofs.Tests.{cases}
 use Rattle.sums.specs.declared.Sampled.{Sampled}
 use Rattle.sums.specs.Fed.{Fed, Slid, Taken, Went, begin, fed, feed}
 use Rattle.sums.specs.Fresh.{Samples, fresh_sum}
-use Rattle.sums.specs.Sums.{SampleOutcome, StartOutcome, start_outcome, is_ready, bad_sum, sample_of, start_of, sample_outcome}
+use Rattle.sums.specs.Sums.{SampleOutcome, StartOutcome, is_ready, bad_sum, sample_of, start_of, sample_outcome}
 use Rattle.sums.proofs.Totals.{padded_total}
 use Rattle.sums.proofs.Windows.{feed_on, sample_gives, samples_first, start_on}
 

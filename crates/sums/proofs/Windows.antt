@@ -1,6 +1,6 @@
 -- What state and ring are after samples since one start: the ring's first W words are the last W samples, the newer ones below the place and the
 -- older ones from it on, and the sum is theirs.
-use Rattle.std.proofs.Common.{◌≡◌, ℕ, zero, suc, ◌+◌, ◌-◌, ◌%◌, ◌<◌, ◌≤◌, true, List, [], ◌∷◌, ◌++◌, length, get_or, drop, set, replicate, ℤ, pos, ◌+ℤ◌, ◌-ℤ◌, sym, refl, ap, ◌∙◌, append_assoc, append-nil, lt_irrefl, mod-eq_of_lt, arith, length-append, lt-ltb, le-leb}
+use Rattle.std.proofs.Common.{◌≡◌, ℕ, ◌+◌, ◌%◌, ◌<◌, ◌≤◌, true, List, [], ◌∷◌, ◌++◌, length, get_or, drop, set, replicate, ℤ, pos, ◌+ℤ◌, ◌-ℤ◌, sym, refl, ap, ◌∙◌, append_assoc, append-nil, lt_irrefl, mod-eq_of_lt, arith, length-append, lt-ltb, le-leb}
 use native.Mathlib.Nat.{mod_self}
 use lib.IntN.{+ℤ_assoc, +ℤ_comm, +ℤ_idr, +ℤ-neg_ℤ_cancel}
 use lib.ListN.{length-replicate}
@@ -13,7 +13,7 @@ use Rattle.sums.specs.Fresh.{Samples, total}
 use Rattle.sums.specs.Fresh.Samples.{more, none}
 use Rattle.sums.specs.Sums.{SampleOutcome, is_ready, largest_window, sample_of, next_sum, sliding, start_of, sample_outcome}
 use Rattle.sums.proofs.Ready.{ready_of}
-use Rattle.sums.proofs.Totals.{fresh_fits, padded, padded_length, padded_more, padded_none, total_append}
+use Rattle.sums.proofs.Totals.{fresh_fits, padded, padded_more, padded_none, total_append}
 
 pub record On (window : ℕ) (samples : List ℤ) (s : Sliding) (ring : List ℤ) : Type 0 where
   pub newer : List ℤ

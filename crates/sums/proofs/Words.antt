@@ -1,5 +1,5 @@
 -- Which words of a ring a call reads and changes, and what a refused start leaves.
-use Rattle.std.proofs.Common.{◌≡◌, ℕ, ◌+◌, ◌-◌, ◌^◌, ◌<◌, ◌≤◌, true, false, ◌≢◌, List, ◌++◌, length, get_or, drop, replicate, ℤ, pos, ◌+ℤ◌, ◌-ℤ◌, sym, refl, ap, ◌∙◌, arith, length-set, get_or-drop, get_or-set_other, get_or-append-add}
+use Rattle.std.proofs.Common.{◌≡◌, ℕ, ◌+◌, ◌-◌, ◌^◌, ◌<◌, ◌≤◌, ◌≢◌, List, ◌++◌, length, get_or, drop, replicate, ℤ, pos, ◌+ℤ◌, ◌-ℤ◌, refl, ap, ◌∙◌, arith, length-set, get_or-drop, get_or-set_other, get_or-append-add}
 use lib.ListN.{length-replicate}
 use lib.Signed.{mag}
 use Rattle.bools.proofs.Tests.{cases}
@@ -60,7 +60,7 @@ module _ (window : ℕ) (ring : List ℤ) where
   unfolding start_of
   start_length =
       cases (is_ready window 0 (length ring))
-      (λ e. rw e (cleared_length window ring (ready_of window 0 (length ring) e).in-ring))
+      (λ e. rw e (cleared_length window ring (ready_of window 0 (length ring) e).in_ring))
       (λ e. rw e)
 
   pub past_start : (i : ℕ) → window ≤ i → get_or (start_of window ring).ring i (pos 0) ≡ get_or ring i (pos 0)

@@ -80,7 +80,7 @@ after_refused : sample_of no_window three (pos 1) ≡ sample_outcome 14 (pos 0) 
 unfolding sample_of is_ready
 after_refused = refl
 
--- states and rings that no start gave: a sum past the largest number of 64 bits, one past the smallest, the smallest number sample_outcome off
+-- states and rings that no start gave: a sum past the largest number of 64 bits, one past the smallest, the smallest number taken off
 past_the_top : sample_of (sliding 2 0 (pos 9223372036854775807)) (pos 0 ∷ pos 0 ∷ []) (pos 1) ≡
     sample_outcome 0 (minus 9223372036854775808) (sliding 2 1 (minus 9223372036854775808)) (pos 1 ∷ pos 0 ∷ [])
 unfolding sample_of is_ready

@@ -6,7 +6,7 @@ use native.Mathlib.Omega.{arith}
 use mathlib.Core.Bool.{Bool, true, false}
 use mathlib.Core.List.{List}
 use mathlib.Core.Path.{◌≡◌, refl, sym, subst, ◌∙◌}
-use borrow.Author.Tests.{eq-eqb, eqb-false, ltb-false, ne_eqb}
+use borrow.Author.Tests.{eq-eqb, eqb-false, ltb-false}
 use lib.Dec.{eqb, ltb, lit≤}
 use lib.ListN.{length}
 use Rattle.words.specs.Word.{bit_of}

@@ -13,7 +13,7 @@ use Rattle.records.specs.declared.Record.{Record}
 use Rattle.records.specs.declared.Record.TheVariants.{AtEnd, Malformed, Ticks, Write, Tag}
 use Rattle.trace.specs.declared.Report.{Report}
 use Rattle.records.specs.declared.Stop.{Stop}
-use Rattle.records.specs.declared.Stop.TheVariants.{End, Spent, Memory, UnknownTag, WrongLength, Cut, NoRepeat}
+use Rattle.records.specs.declared.Stop.TheVariants.{End, Spent, Memory}
 use Rattle.records.specs.Records.{next_at, record_at}
 
 -- "stop cause, offset of the next record, ticks, records passed (refused ones included), records refused"

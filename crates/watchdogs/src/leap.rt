@@ -5,6 +5,7 @@ ghost use Rattle.watchdogs.specs.Leap.{leap_watchdogs, value_after, watchdog_aft
 use crate::watchdog::Watchdog;
 
 // The ticks since the last rise after k more, at most 128 times 65,535.
+#[tactic(auto, using(bools::proofs::Tests::tests))]
 fn value_after(k: u32, value: u32) -> u32
     ensures { result ≡ value_after k value }
 {

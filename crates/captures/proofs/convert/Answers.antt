@@ -20,7 +20,7 @@ returns-then-capture-ne0 c =
 -- a slice has fewer than 2 ^ 63 bytes, so 14 for each nine of the capture fit a word
 pub overflow_mul-bytes : goal.overflow_mul-bytes
 overflow_mul-bytes c =
-    omega (arith, scanned_few c.args.capture.now c.scan-scanned.ensures, c.well-formed.0.1)
+    omega (arith, scanned_few c.args.capture.now c.scan-scanned.ensures, c.well_formed.0.1)
 
 pub returns-then-number-ne0 : goal.returns-then-number-ne0
 returns-then-number-ne0 c =
@@ -39,7 +39,7 @@ pub write_trace-requires : goal.write_trace-requires
 write_trace-requires c =
     let a = c.args in
     let n = 14 * c.scan-scanned.result.records in
-    let z = no_cause c.scan-scanned.result.bad (ltb (length a.out.now) n) (sym c.cause-number.ensures ∙ c.if-number-ne0.false) in
+    let z = no_cause c.scan-scanned.result.bad (ltb (length a.out.now) n) (sym c.cause-number.ensures ∙ (assumption c)) in
     let t = c.scan-scanned.ensures in
     omega (arith, scanned_length a.capture.now t (sym (ap (λ (x : Scanned). x.bad) t) ∙ z.0), ltb-false (length a.out.now) n z.1)
 
@@ -48,7 +48,7 @@ returns c =
     let a = c.args in
     let t = c.scan-scanned.ensures in
     let n = 14 * c.scan-scanned.result.records in
-    let z = no_cause c.scan-scanned.result.bad (ltb (length a.out.now) n) (sym c.cause-number.ensures ∙ c.if-number-ne0.false) in
+    let z = no_cause c.scan-scanned.result.bad (ltb (length a.out.now) n) (sym c.cause-number.ensures ∙ (assumption c)) in
     let good = sym (ap (λ (x : Scanned). x.bad) t) ∙ z.0 in
     let e : n ≡ length (trace_of a.capture.now) = scanned_length a.capture.now t good in
     rw (c.write_trace.ensures, e)

@@ -16,4 +16,4 @@ returns c =
     let xs = c.args.answer.now in
     let r = c.convert-made.result in
     rw (eq-eqb _ _ c.if-answer-ne2.false, ← c.convert-made.ensures)
-    (ap (answered r.number c.convert-made.new.1.0) (all_set xs (r.bytes ∷ r.frame ∷ []) (sym c.if-answer-ne2.false)))
+    (ap (answered r.number c.convert-made.new.out) (all_set xs (r.bytes ∷ r.frame ∷ []) (sym c.if-answer-ne2.false)))

@@ -1,5 +1,6 @@
 -- `mirvacula_run` meets its contract: the report, the image and the stop are those of the run, or nothing was done.
-use borrow.Author.Tests.{not-true}
+use mathlib.Core.Bool.{not}
+use mathlib.Core.Path.{ap}
 use Rattle.mirvacula.specs.Exported.{export_of, image_words}
 use Rattle.mirvacula.proofs.Fitting.{fits, report_fits, words_fit}
 use Rattle.mirvacula.proofs.mirvacula_run.Goals as goal
@@ -7,24 +8,24 @@ use Rattle.mirvacula.proofs.mirvacula_run.Goals as goal
 pub returns-then-not-both : goal.returns-then-not-both
 unfolding export_of
 returns-then-not-both c =
-    rw (← c.both.ensures, not-true c.both.result c.if-not-both.true, c.misfit_code.ensures)
+    rw (← c.both.ensures, c.if-not-both.true, c.misfit_code.ensures)
 
 pub run_and_report-end-requires : goal.run_and_report-end-requires
 run_and_report-end-requires c =
     let a = c.args in
-    report_fits image_words a.report.now a.image.now c.both.result c.both.ensures c.if-not-both.false
+    report_fits image_words a.report.now a.image.now c.both.result c.both.ensures (ap not c.if-not-both.false)
 
 pub put_image-requires : goal.put_image-requires
 put_image-requires c =
     let a = c.args in
-    words_fit image_words a.report.now a.image.now c.both.result c.both.ensures c.if-not-both.false
+    words_fit image_words a.report.now a.image.now c.both.result c.both.ensures (ap not c.if-not-both.false)
 
 pub returns : goal.returns
 unfolding export_of
 returns c =
     let a = c.args in
     rw (
-      fits image_words a.report.now a.image.now c.both.result c.both.ensures c.if-not-both.false,
+      fits image_words a.report.now a.image.now c.both.result c.both.ensures (ap not c.if-not-both.false),
       ← c.run_and_report-end.ensures.0,
       c.report_code.ensures,
       c.run_and_report-end.ensures.1,

@@ -1,9 +1,7 @@
 -- `put_image` meets its contract: the loop sets one word a turn (`Swept`).
-use Prim.Native.Nat.{◌+◌, ◌-◌, ◌<◌}
+use Prim.Native.Nat.{◌+◌, ◌<◌}
 use native.Mathlib.Omega.{arith}
 use mathlib.Core.Path.{◌≡◌, sym, ap, ◌∙◌}
-use lib.ListN.{length}
-use Rattle.lists.specs.Table.{tabulate}
 use Rattle.lists.proofs.Sweep.{swept_all, swept_length, swept_more, swept_none}
 use Rattle.lists.proofs.Tables.{get_d_tabulate, length_tabulate}
 use Rattle.device.specs.declared.answer.Read.{Read}

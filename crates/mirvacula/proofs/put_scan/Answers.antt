@@ -1,5 +1,4 @@
 -- `put_scan` meets its contract: the loop sets one number a turn (`Swept`).
-use Prim.Native.Nat.{◌-◌}
 use native.Mathlib.Omega.{arith}
 use mathlib.Core.Path.{◌≡◌, ◌∙◌}
 use borrow.Author.Rules.{rules}

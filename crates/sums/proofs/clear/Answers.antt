@@ -1,7 +1,6 @@
 -- `clear` meets its contract: the loop sets one word a turn (`Swept`).
-use Rattle.std.proofs.Common.{◌≡◌, ◌-◌, length, pos, sym, arith, rules}
+use Rattle.std.proofs.Common.{◌≡◌, pos, sym, arith, rules}
 use Rattle.lists.proofs.Sweep.{swept_length, swept_more, swept_none}
-use Rattle.sums.specs.Sums.{cleared}
 use Rattle.sums.proofs.Clearing.{cleared_at, cleared_length, cleared_swept}
 use Rattle.sums.proofs.clear.Goals as goal
 

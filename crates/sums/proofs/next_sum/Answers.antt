@@ -20,5 +20,5 @@ pub returns : goal.returns
 returns c =
     let e =
     word_slid c.args.sum c.args.newest c.args.oldest (word_of_lem c.ranges.sum c.wide_word.ensures) (word_of_lem c.ranges.newest c.wide_word-2.ensures)
-    (word_of_lem c.ranges.oldest c.wide_word-3.ensures) c.wrapping_add_u64-more.ensures c.wrapping_sub_u64.type_inv c.wrapping_sub_u64.ensures in
+    (word_of_lem c.ranges.oldest c.wide_word-3.ensures) c.wrapping_add_u64-more.ensures.value c.wrapping_sub_u64.type_inv c.wrapping_sub_u64.ensures.value in
     to_z-of_z w64 _ (record { sfits = c.wide_number.type_inv }) ∙ c.wide_number.ensures ∙ ap (signed 64) e

@@ -1,19 +1,15 @@
 -- `sample` meets its contract: where it is ready the sample takes the oldest one's word, else it is refused.
-use Rattle.std.proofs.Common.{◌≡◌, true, length, get_or, pos, sym, ◌∙◌, lt_of_lt_of_le, w32, w64, to_z, of_z, rules}
+use Rattle.std.proofs.Common.{◌≡◌, get_or, pos, sym, ◌∙◌, lt_of_lt_of_le, w32, w64, to_z, of_z, rules}
 use mir.ValLaws.{to_z-of_z}
-use Rattle.sums.specs.Sums.{is_ready, sample_of, next_sum_by}
+use Rattle.sums.specs.Sums.{sample_of, next_sum_by}
 use Rattle.sums.proofs.Ready.{ready_of}
 use Rattle.sums.proofs.sample.Goals as goal
 
-ready : (c : tie.Then1) →
-    is_ready c.before.before.args.state.window c.before.before.args.state.place (length c.before.before.args.ring.now) ≡ true
-ready c = sym c.before.is-ready.ensures ∙ c.if1.true
-
 pub exchange-oldest-requires : goal.exchange-oldest-requires
-exchange-oldest-requires c = let r = ready_of _ _ _ (ready c) in lt_of_lt_of_le r.in_window r.in-ring
+exchange-oldest-requires c = let r = ready_of _ _ _ (sym c.is_ready.ensures ∙ c.if-is_ready.true) in lt_of_lt_of_le r.in_window r.in_ring
 
 pub next_place-requires : goal.next_place-requires
-next_place-requires c = (ready_of _ _ _ (ready c)).in_window
+next_place-requires c = (ready_of _ _ _ (sym c.is_ready.ensures ∙ c.if-is_ready.true)).in_window
 
 pub returns-then-is_ready : goal.returns-then-is_ready
 unfolding sample_of
@@ -26,7 +22,7 @@ returns-then-is_ready c =
     let before : to_z w64 (of_z w64 a.state.sum) ≡ a.state.sum = search rules in
     let sum : to_z w64 (of_z w64 c.next_sum-sum.result) ≡ next_sum_by a.state a.ring.now a.newest =
     to_z-of_z w64 _ (record { sfits = c.next_sum-sum.type_inv }) ∙ c.next_sum-sum.ensures ∙ rw (before, newest, oldest) in
-    rw (ready c, c.state_of.ensures, c.next_place.ensures, sum, c.exchange-oldest.ensures.1, newest)
+    rw (sym c.is_ready.ensures ∙ c.if-is_ready.true, c.state_of.ensures, c.next_place.ensures, sum, c.exchange-oldest.ensures.1, newest)
 
 pub returns : goal.returns
 unfolding sample_of

@@ -1,5 +1,5 @@
 -- `widened` meets its contract: a number of 32 bits is the same in 64.
-use Rattle.std.proofs.Common.{◌∙◌, w32, w64, to_z, of_z}
+use Rattle.std.proofs.Common.{◌∙◌, w32, w64}
 use mir.Facts.{sfits_widen}
 use mir.ValLaws.{to_z-of_z}
 use Rattle.sums.proofs.widened.Goals as goal

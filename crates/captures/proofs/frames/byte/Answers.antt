@@ -4,7 +4,7 @@ use mathlib.Core.Path.{refl}
 use Rattle.captures.proofs.frames.byte.Goals as goal
 
 pub overflow_cast-result : goal.overflow_cast-result
-overflow_cast-result c = omega (arith, c.shared_slice_known-1.given c.args.at)
+overflow_cast-result c = omega (arith, c.type_inv.capture c.args.at)
 
 pub returns : goal.returns
-returns c = (refl, omega (arith, c.shared_slice_known-1.given c.args.at))
+returns c = (refl, omega (arith, c.type_inv.capture c.args.at))

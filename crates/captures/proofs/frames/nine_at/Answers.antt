@@ -10,4 +10,4 @@ pub returns : goal.returns
 unfolding frame_of
 returns c =
     let a = c.args in
-    nine_read a.capture.now a.i _ _ (omega (arith, c.shared_slice_known-1.given (9 * a.i + 7))) c.head_at.ensures refl
+    nine_read a.capture.now a.i _ _ (omega (arith, c.type_inv.capture (9 * a.i + 7))) c.head_at.ensures refl

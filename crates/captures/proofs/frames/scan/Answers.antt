@@ -1,14 +1,13 @@
 -- `scan` meets its contract: the frames passed are good, and the records so far with those still to come are those of the capture.
-use Prim.Native.Nat.{◌-◌}
 use native.Mathlib.Omega.{arith}
 use mathlib.Core.Bool.{true, false}
-use mathlib.Core.Logic.{⊎_elim}
 use mathlib.Core.Path.{◌≡◌, sym, ap, ◌∙◌}
 use lib.ListN.{length}
 use Rattle.captures.specs.Captures.{frame_at, is_bad}
 use Rattle.captures.specs.Nine.{frame_of}
 use Rattle.captures.proofs.Scan.{bad_here, bad_more, bad_none, bad_told, bad_untold, begins, below, coming, coming_last, first_begins, goes_on_lem, records_none, scan_bad, scan_good}
 use Rattle.captures.proofs.frames.scan.Goals as goal
+use Rattle.captures.proofs.frames.scan.Goals.{then-joins, else-joins}
 
 pub returns-then-frames-eq0 : goal.returns-then-frames-eq0
 returns-then-frames-eq0 c =
@@ -45,14 +44,14 @@ loop-i-preserved c =
     let good : is_bad (frame_at a l.i) ≡ false = rw (← c.nine_at-y.ensures) (sym c.is_bad.ensures ∙ c.if-is_bad.false) in
     let f = bad_more a l.i (omega arith) good ∙ l.invariant.1 in
     let y = frame_of c.nine_at-y.result in
-    ⊎_elim
-    (λ w.
-    let e = goes_on_lem a (frame_of l.x) l.times l.i y (omega arith) c.nine_at-y.ensures c.joins.ensures w.0.taken in
-    rw (w.1, w.2, w.3) (omega arith, f, omega arith, omega (arith, ap length e)))
-    (λ w.
-    let e = begins a (frame_of l.x) l.times l.i y (omega arith) c.nine_at-y.ensures c.joins.ensures w.0.left in
-    rw (w.1, w.2, w.3) (omega arith, f, omega arith, omega (arith, ap length e)))
-    c.if-joins.branch
+    elim c.if-joins.branch [
+      | then-joins w ↦
+          let e = goes_on_lem a (frame_of l.x) l.times l.i y (omega arith) c.nine_at-y.ensures c.joins.ensures w.if-joins.true in
+          rw (w.x-is, w.times-is, w.records-is) (omega arith, f, omega arith, omega (arith, ap length e))
+      | else-joins w ↦
+          let e = begins a (frame_of l.x) l.times l.i y (omega arith) c.nine_at-y.ensures c.joins.ensures w.if-joins.false in
+          rw (w.x-is, w.times-is, w.records-is) (omega arith, f, omega arith, omega (arith, ap length e))
+    ]
 
 pub returns : goal.returns
 returns c =

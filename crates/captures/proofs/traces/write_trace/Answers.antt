@@ -1,12 +1,11 @@
 -- `write_trace` meets its contract: the bytes so far, with the repeats still to come, are the trace (`Wrote`).
-use Prim.Native.Nat.{◌-◌}
 use native.Mathlib.Omega.{arith}
-use mathlib.Core.Logic.{⊎_elim}
 use Rattle.captures.specs.Captures.{records_of, trace_of}
 use Rattle.captures.specs.Nine.{frame_of}
 use Rattle.captures.specs.Written.{written}
-use Rattle.captures.proofs.Scan.{begins, below, coming, coming_last, first_begins, goes_on_lem, records_none, wrote_all, wrote_by, wrote_more, wrote_none, wrote_room}
+use Rattle.captures.proofs.Scan.{begins, below, coming_last, first_begins, goes_on_lem, records_none, wrote_all, wrote_by, wrote_more, wrote_none, wrote_room}
 use Rattle.captures.proofs.traces.write_trace.Goals as goal
+use Rattle.captures.proofs.traces.write_trace.Goals.{then-joins, else-joins}
 
 pub returns-then-frames-eq0 : goal.returns-then-frames-eq0
 unfolding trace_of written
@@ -37,21 +36,21 @@ overflow_add-at c =
     let l = c.loop-i in
     let e =
     begins c.args.capture.now (frame_of l.x) l.times l.i (frame_of c.nine_at-y.result) (omega arith) c.nine_at-y.ensures c.joins.ensures c.if-joins.false in
-    omega (arith, wrote_room (wrote_by e l.invariant.1), l.invariant.1.size, c.well-formed.1.0.0)
+    omega (arith, wrote_room (wrote_by e l.invariant.1), l.invariant.1.size, c.well_formed.1.0.0)
 
 pub loop-i-preserved : goal.loop-i-preserved
 loop-i-preserved c =
     let l = c.loop-i in
     let a = c.args.capture.now in
     let y = frame_of c.nine_at-y.result in
-    ⊎_elim
-    (λ w.
-    let e = goes_on_lem a (frame_of l.x) l.times l.i y (omega arith) c.nine_at-y.ensures c.joins.ensures w.0.taken in
-    rw (w.1, w.2, w.3, w.4) (omega arith, wrote_by e l.invariant.1))
-    (λ w.
-    let e = begins a (frame_of l.x) l.times l.i y (omega arith) c.nine_at-y.ensures c.joins.ensures w.0.left in
-    rw (w.5, w.6, w.7, w.8) (omega arith, wrote_more (wrote_by e l.invariant.1) _ w.2.ensures))
-    c.if-joins.branch
+    elim c.if-joins.branch [
+      | then-joins w ↦
+          let e = goes_on_lem a (frame_of l.x) l.times l.i y (omega arith) c.nine_at-y.ensures c.joins.ensures w.if-joins.true in
+          rw (w.out-is, w.x-is, w.times-is, w.at-is) (omega arith, wrote_by e l.invariant.1)
+      | else-joins w ↦
+          let e = begins a (frame_of l.x) l.times l.i y (omega arith) c.nine_at-y.ensures c.joins.ensures w.if-joins.false in
+          rw (w.out-is, w.x-is, w.times-is, w.at-is) (omega arith, wrote_more (wrote_by e l.invariant.1) _ w.put_at.ensures)
+    ]
 
 pub put_at-requires-2 : goal.put_at-requires-2
 put_at-requires-2 c =

@@ -6,7 +6,7 @@ use Rattle.captures.proofs.Scan.{Wrote, coming}
 use Rattle.captures.proofs.traces.write_trace.Given as goal
 
 abbrev pub invariant-loop-i : goal.invariant-loop-i
-invariant-loop-i l = (l.i ≤ length l.capture / 9) × Wrote (trace_of l.capture) l.frames l.at (coming l.capture (frame_of l.x) l.times l.i) l.out
+invariant-loop-i l = (l.i ≤ length l.capture / 9) × Wrote (trace_of l.capture) l.fn.out l.at (coming l.capture (frame_of l.x) l.times l.i) l.out
 
 abbrev pub decreases-loop-i : goal.decreases-loop-i
 decreases-loop-i l = length l.capture / 9 - l.i

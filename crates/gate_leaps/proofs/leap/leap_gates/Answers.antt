@@ -1,11 +1,10 @@
 -- `leap_gates` meets its contract: the loop leaps one element a turn (`Stepped`).
-use Prim.Native.Nat.{◌-◌}
 use native.Mathlib.Omega.{arith}
 use mathlib.Core.Path.{◌≡◌}
 use lib.ListN.{length}
 use Rattle.lists.proofs.Sweep.{step_all, step_more, step_none}
 use Rattle.gates.specs.Gate.{gate0}
-use Rattle.gate_leaps.specs.Leap.{gate_after, leap_gates}
+use Rattle.gate_leaps.specs.Leap.{leap_gates}
 use borrow.Author.Rules.{rules}
 use Rattle.gate_leaps.proofs.leap.leap_gates.Goals as goal
 

@@ -1,7 +1,6 @@
 -- `steady_gates` meets its contract: the loop goes on while each gate stays (`any_more`).
-use Prim.Native.Nat.{◌-◌}
 use native.Mathlib.Omega.{arith}
-use mathlib.Core.Bool.{false, not}
+use mathlib.Core.Bool.{not}
 use mathlib.Core.Path.{◌≡◌, refl, sym, ap, ◌∙◌}
 use lib.ListN.{get_or, length}
 use Rattle.words.specs.Word.{bit}
@@ -24,7 +23,7 @@ returns-then-not-steady c =
     let a = c.args in
     let full : length a.gates ≡ 12 = search rules in
     let e = (rw c.bit.ensures at c.steady.ensures) ∙ ap (steady a.k (bit a.levels l.i)) (get_d_any a.gates l.i _ gate0 (omega arith)) in
-    rw (any_found 12 (λ g. not (steady a.k (bit a.levels g) (get_or a.gates g gate0))) l.i (omega arith) (ap not (sym e) ∙ c.if-not-steady.true))
+    rw (any_found 12 (λ g. not (steady a.k (bit a.levels g) (get_or a.gates g gate0))) l.i (omega arith) (ap not (sym e ∙ c.if-not-steady.true)))
 
 pub loop-i-preserved : goal.loop-i-preserved
 unfolding gate_at
@@ -33,7 +32,7 @@ loop-i-preserved c =
     let a = c.args in
     let full : length a.gates ≡ 12 = search rules in
     let e = (rw c.bit.ensures at c.steady.ensures) ∙ ap (steady a.k (bit a.levels l.i)) (get_d_any a.gates l.i _ gate0 (omega arith)) in
-    (omega arith, any_more l.i (λ g. not (steady a.k (bit a.levels g) (get_or a.gates g gate0))) l.invariant.1 (ap not (sym e) ∙ c.if-not-steady.false))
+    (omega arith, any_more l.i (λ g. not (steady a.k (bit a.levels g) (get_or a.gates g gate0))) l.invariant.1 (ap not (sym e ∙ c.if-not-steady.false)))
 
 pub returns : goal.returns
 unfolding steady_gates

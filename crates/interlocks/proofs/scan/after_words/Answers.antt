@@ -1,11 +1,11 @@
 -- `after_words` meets its contract: the loop reads the word of one output a turn (`Stepped`).
-use Prim.Native.Nat.{◌-◌, ◌<◌}
+use Prim.Native.Nat.{◌<◌}
 use native.Mathlib.Omega.{arith}
 use mathlib.Core.Path.{◌≡◌}
 use borrow.Author.Rules.{rules}
 use lib.ListN.{length}
 use Rattle.lists.proofs.Sweep.{step_all, step_more, step_none}
-use Rattle.interlocks.specs.Together.{after_word, after_words}
+use Rattle.interlocks.specs.Together.{after_words}
 use Rattle.interlocks.proofs.scan.after_words.Invariants.{read_by}
 use Rattle.interlocks.proofs.scan.after_words.Goals as goal
 

@@ -1,11 +1,10 @@
 -- `any_wants` meets its contract: while the loop goes on, no output so far wants the word (`any_more`); where one does, one of all does (`any_found`).
-use Prim.Native.Nat.{◌-◌, ◌<◌}
+use Prim.Native.Nat.{◌<◌}
 use native.Mathlib.Omega.{arith}
-use mathlib.Core.Bool.{false}
 use mathlib.Core.Path.{◌≡◌, refl, sym, ◌∙◌}
 use Rattle.lists.specs.Table.{any}
 use Rattle.lists.proofs.Tables.{any_found, any_more}
-use Rattle.interlocks.specs.Together.{any_wants, wants}
+use Rattle.interlocks.specs.Together.{any_wants}
 use Rattle.interlocks.proofs.scan.any_wants.Goals as goal
 
 pub loop-o-init : goal.loop-o-init

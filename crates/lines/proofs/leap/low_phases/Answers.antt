@@ -5,9 +5,9 @@ use mathlib.Core.Bool.{false}
 use mathlib.Core.Path.{◌≡◌, refl}
 use lib.Dec.{leb}
 use lib.ListN.{get_or}
-use borrow.Author.Tests.{le-leb, lt-leb}
+use borrow.Author.Tests.{lt-leb}
 use Rattle.lists.specs.Table.{any}
-use Rattle.lists.proofs.Tables.{any_found, any_more}
+use Rattle.lists.proofs.Tables.{any_more}
 use Rattle.lines.specs.Leap.{low_phases}
 use Rattle.lines.proofs.leap.low_phases.Goals as goal
 
@@ -15,16 +15,10 @@ pub loop-i-init : goal.loop-i-init
 unfolding any
 loop-i-init c = (omega arith, refl)
 
-pub returns-then-phases-i-ge125000 : goal.returns-then-phases-i-ge125000
-unfolding low_phases
-returns-then-phases-i-ge125000 c =
-    let l = c.loop-i in
-    rw (any_found 9 (λ j. leb 125000 (get_or c.args.phases j 0)) l.i (omega arith) (le-leb _ _ c.if-phases-i-ge125000.true))
-
 pub loop-i-preserved : goal.loop-i-preserved
 loop-i-preserved c =
     let l = c.loop-i in
-    (omega arith, any_more l.i (λ j. leb 125000 (get_or c.args.phases j 0)) l.invariant.1 (lt-leb _ _ c.if-phases-i-ge125000.false))
+    (omega arith, any_more l.i (λ j. leb 125000 (get_or c.args.phases j 0)) l.invariant.1 (lt-leb _ _ (assumption c)))
 
 pub returns : goal.returns
 unfolding low_phases

@@ -36,7 +36,7 @@ unfolding load_into counter_at
 returns c =
     let a = c.args in
     let n = a.loader.next in
-    let full : length a.counters ≡ 128 = search (rules, c.well-formed) in
+    let full : length a.counters ≡ 128 = search (rules, c.well_formed) in
     rw (not-false a.loader.busy c.if-not-loader.false, ← c.group_at.ensures, eq-eqb _ _ c.if-request-group_at.false)
     (ap (set a.counters n)
     (c.load.ensures ∙ ap (loaded a.mem.now (place_of a.loader.request.dataset n)) (get_d_any a.counters n _ counter0 (omega arith))))

@@ -1,5 +1,4 @@
 -- `shift` meets its contract: the loop sets one place a turn (`Swept`), and the last store sets place 15, behind which nothing stands.
-use Prim.Native.Nat.{◌-◌}
 use native.Mathlib.Omega.{arith}
 use mathlib.Core.Path.{◌≡◌, sym, ◌∙◌}
 use borrow.Author.Rules.{rules}

@@ -1,9 +1,8 @@
 -- `clear_memory` meets its contract: the loop sets one word a turn (`Swept`).
-use Prim.Native.Nat.{◌-◌, ◌<◌}
+use Prim.Native.Nat.{◌<◌}
 use native.Mathlib.Omega.{arith}
 use mathlib.Core.Path.{refl, sym}
 use lib.ListN.{length, length-set}
-use Rattle.lists.specs.Table.{tabulate}
 use Rattle.lists.proofs.Sweep.{swept_all, swept_more, swept_none}
 use Rattle.lists.proofs.Tables.{get_d_tabulate, length_tabulate}
 use Rattle.loader.proofs.memory.clear_memory.Goals as goal

@@ -1,8 +1,7 @@
 -- `copy` meets its contract: the loop sets one word a turn (`Swept`).
-use Prim.Native.Nat.{◌-◌}
 use native.Mathlib.Omega.{arith}
 use mathlib.Core.Path.{refl}
-use lib.ListN.{length, length-set}
+use lib.ListN.{length-set}
 use Rattle.lists.proofs.Sweep.{swept_all, swept_more, swept_none}
 use Rattle.loader.proofs.memory.copy.Goals as goal
 

@@ -4,7 +4,6 @@ use native.Mathlib.Omega.{arith}
 use mathlib.Core.List.{append-nil}
 use mathlib.Core.Path.{◌≡◌, refl, sym, ◌∙◌}
 use borrow.Author.Rules.{rules}
-use Rattle.pages.specs.Page.{written, cut}
 use Rattle.printing.specs.Printed.{words_from}
 use Rattle.pages.proofs.Pages.{cut_again, cut_two, cut_written}
 use Rattle.printing.proofs.Places.{words_more}

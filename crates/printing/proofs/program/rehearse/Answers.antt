@@ -8,12 +8,12 @@ use Rattle.printing.proofs.program.rehearse.Goals as goal
 
 pub slice_bounds-run-end-2 : goal.slice_bounds-run-end-2
 slice_bounds-run-end-2 c =
-    sym (length-take-le c.taken.result c.args.input.now (omega (arith, c.taken.ensures)))
+    sym (length-take-le c.taken-n.result c.args.input.now (omega (arith, c.taken-n.ensures)))
 
 pub returns : goal.returns
 returns c =
-    let q = c.power-up.ensures in (
-      c.printed.ensures.0 ∙ prints _ _ _ _ _ _ _ c.taken.ensures (search rules) q.0 q.1 c.run-end.ensures,
+    let q = c.power_up-start.ensures in (
+      c.printed.ensures.0 ∙ prints _ _ _ _ _ _ _ c.taken-n.ensures (search rules) q.0 q.1 c.run-end.ensures,
       c.printed.ensures.1,
       refl,
     )

@@ -5,7 +5,7 @@ use Rattle.reading.proofs.reading.status_word.Goals as goal
 
 pub outputs-requires : goal.outputs-requires
 unfolding outputs_of status_word
-outputs-requires c = ensures
+outputs-requires c = c.gate_bits-in-Outputs.ensures
 
 pub returns-in-Module : goal.returns-in-Module
 unfolding outputs_of status_word

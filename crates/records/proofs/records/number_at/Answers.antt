@@ -1,5 +1,5 @@
 -- `number_at` meets its contract: after k turns the number of k bytes stands, and it fits (`number_on`, `number_fits`).
-use Prim.Native.Nat.{◌+◌, ◌-◌, ◌<◌}
+use Prim.Native.Nat.{◌+◌, ◌<◌}
 use native.Mathlib.Omega.{arith}
 use mathlib.Core.Path.{◌≡◌, refl}
 use lib.Dec.{lit<}
@@ -21,14 +21,14 @@ pub overflow_add-v-in-loop-k : goal.overflow_add-v-in-loop-k
 overflow_add-v-in-loop-k c =
     let l = c.loop-k in
     let a = c.args in
-    let b : get_or a.t.now (a.at + l.k) 0 < 256 = omega (arith, c.shared_slice_known-1.given (a.at + l.k)) in
+    let b : get_or a.t.now (a.at + l.k) 0 < 256 = omega (arith, c.type_inv.t (a.at + l.k)) in
     omega (arith, number_room l.k l.v _ (omega arith) l.invariant.2 b)
 
 pub loop-k-preserved : goal.loop-k-preserved
 loop-k-preserved c =
     let l = c.loop-k in
     let a = c.args in
-    let b : get_or a.t.now (a.at + l.k) 0 < 256 = omega (arith, c.shared_slice_known-1.given (a.at + l.k)) in
+    let b : get_or a.t.now (a.at + l.k) 0 < 256 = omega (arith, c.type_inv.t (a.at + l.k)) in
     (omega arith, rw (number_on _ _ l.k, ← l.invariant.1), number_fits l.k l.v _ l.invariant.2 b)
 
 pub returns : goal.returns
@@ -43,7 +43,7 @@ pub bounds-t-at : goal.bounds-t-at
 bounds-t-at c = omega arith
 
 pub overflow_cast-v : goal.overflow_cast-v
-overflow_cast-v c = omega (arith, c.shared_slice_known-1.given (c.args.at + c.loop-k.k))
+overflow_cast-v c = omega (arith, c.type_inv.t (c.args.at + c.loop-k.k))
 
 pub overflow_add-k : goal.overflow_add-k
 overflow_add-k c = omega arith

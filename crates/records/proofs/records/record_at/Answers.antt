@@ -1,8 +1,7 @@
 -- `record_at` meets its contract: each return is the definition's case by the tests on the way.
 use Prim.Native.Nat.{◌-◌}
 use native.Mathlib.Omega.{arith}
-use mathlib.Core.Bool.{false}
-use borrow.Author.Tests.{eq-eqb, le-ltb, lt-ltb, ne_eqb, not-false, not-true}
+use borrow.Author.Tests.{eq-eqb, le-ltb, lt-ltb, ne_eqb}
 use lib.ListN.{length}
 use Rattle.records.specs.Records.{record_at}
 use Rattle.records.proofs.Numbers.{some_left}
@@ -23,7 +22,7 @@ pub returns-then-not-is_known : goal.returns-then-not-is_known
 unfolding record_at
 returns-then-not-is_known c =
     let a = c.args in
-    rw (some_left a.t.now a.at (omega arith), le-ltb _ _ c.if-left-lt3.false, ← c.is_known.ensures, not-true c.is_known.result c.if-not-is_known.true)
+    rw (some_left a.t.now a.at (omega arith), le-ltb _ _ c.if-left-lt3.false, ← c.is_known.ensures, c.if-not-is_known.true)
 
 pub returns-then-size-payload_bytes : goal.returns-then-size-payload_bytes
 unfolding record_at
@@ -33,7 +32,7 @@ returns-then-size-payload_bytes c =
       some_left a.t.now a.at (omega arith),
       le-ltb _ _ c.if-left-lt3.false,
       ← c.is_known.ensures,
-      not-false c.is_known.result c.if-not-is_known.false,
+      c.if-not-is_known.false,
       ← c.word_at-size.ensures,
       ← c.payload_bytes.ensures,
       ne_eqb _ _ c.if-size-payload_bytes.true,
@@ -47,7 +46,7 @@ returns-then-left-size c =
       some_left a.t.now a.at (omega arith),
       le-ltb _ _ c.if-left-lt3.false,
       ← c.is_known.ensures,
-      not-false c.is_known.result c.if-not-is_known.false,
+      c.if-not-is_known.false,
       ← c.word_at-size.ensures,
       ← c.payload_bytes.ensures,
       eq-eqb _ _ c.if-size-payload_bytes.false,
@@ -62,7 +61,7 @@ returns-else-left-size c =
       some_left a.t.now a.at (omega arith),
       le-ltb _ _ c.if-left-lt3.false,
       ← c.is_known.ensures,
-      not-false c.is_known.result c.if-not-is_known.false,
+      c.if-not-is_known.false,
       ← c.word_at-size.ensures,
       ← c.payload_bytes.ensures,
       eq-eqb _ _ c.if-size-payload_bytes.false,

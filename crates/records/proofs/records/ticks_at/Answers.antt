@@ -14,4 +14,4 @@ unfolding ticks_at
 returns c =
     let a = c.args in
     let inputs : c.number_at-inputs.result ≡ number_at a.t.now (a.at + a.width) 7 = c.number_at-inputs.ensures.0 in
-    rw (← c.number_at-repeat.ensures.0, ne_eqb c.number_at-repeat.result 0 c.if-repeat-eq0.false, inputs, ← c.word_at-gates.ensures)
+    rw (← c.number_at-repeat.ensures.0, ne_eqb c.number_at-repeat.result 0 (assumption c), inputs, ← c.word_at-gates.ensures)

@@ -8,7 +8,7 @@ pub run_ticks-requires : goal.run_ticks-requires
 run_ticks-requires c =
     let a = c.args in
     let s = c.requires in
-    let h = whole_at a.t.now a.p.report.next c.record-at.ensures c.record2.given.1 in
+    let h = whole_at a.t.now a.p.report.next c.record_at-record.ensures c.in-Ticks.is in
     (room_at a.p.report s h (omega arith) (omega arith), s.spent)
 
 pub run_write-requires : goal.run_write-requires
@@ -20,7 +20,7 @@ run_write-requires c =
 pub run_tag-requires : goal.run_tag-requires
 run_tag-requires c =
     let a = c.args in
-    let h = whole_at a.t.now a.p.report.next c.record-at.ensures c.record4.given.1 in
+    let h = whole_at a.t.now a.p.report.next c.record_at-record.ensures c.in-Tag.is in
     room_at a.p.report c.requires h (omega arith) (omega arith)
 
 pub returns-in-AtEnd : goal.returns-in-AtEnd
@@ -34,7 +34,7 @@ returns-in-Malformed c = rw (← c.record_at-record.ensures, c.in-Malformed.is, 
 pub returns-in-Ticks : goal.returns-in-Ticks
 unfolding once_of by_record
 returns-in-Ticks c =
-    rw (← c.record-at.ensures, c.record2.given.1) c.run_ticks.ensures
+    rw (← c.record_at-record.ensures, c.in-Ticks.is) c.run_ticks.ensures
 
 pub returns-in-Write : goal.returns-in-Write
 unfolding once_of by_record
@@ -44,4 +44,4 @@ returns-in-Write c =
 pub returns-in-Tag : goal.returns-in-Tag
 unfolding once_of by_record
 returns-in-Tag c =
-    rw (← c.record-at.ensures, c.record4.given.1) c.run_tag.ensures
+    rw (← c.record_at-record.ensures, c.in-Tag.is) c.run_tag.ensures

@@ -36,7 +36,7 @@ loop-fuel-preserved c =
     let l = c.loop-fuel in
     let a = c.args in
     let r = run l.p l.mem in (
-      c.once-p.auto.1.0 ∙ l.invariant.0,
+      c.once-p.auto.mem ∙ l.invariant.0,
       rw (← c.once-p.ensures) at (once_sound a.trace.now a.budget r l.invariant.1),
       rw c.once-p.ensures (run_on_lem a.trace.now a.budget l.fuel r (not-false l.p.going c.if-not-p.false) (omega arith) ∙ l.invariant.2),
     )

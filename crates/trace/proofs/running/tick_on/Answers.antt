@@ -1,12 +1,12 @@
 -- `tick_on` meets its contract: what the ticks left make of the crate is the same at each turn, after a tick (`calls_less`) and after a leap (`SameEnd`).
 use native.Mathlib.Omega.{arith}
-use mathlib.Core.Logic.{⊎_elim}
 use mathlib.Core.Path.{◌≡◌, refl, sym, ◌∙◌}
 use Rattle.registers.specs.Calls.{tick}
 use Rattle.device.specs.State.{machine}
 use Rattle.trace.proofs.Leaping.{calls_refused, memory_refused}
 use Rattle.trace.proofs.Steps.{called_out, calls_less, calls_none, tick_refused}
 use Rattle.trace.proofs.running.tick_on.Goals as goal
+use Rattle.trace.proofs.running.tick_on.Goals.{then-both, else-both}
 
 pub returns-then-mem-ne16384 : goal.returns-then-mem-ne16384
 returns-then-mem-ne16384 c =
@@ -42,10 +42,12 @@ returns c =
     let e : l.left ≡ 0 = omega arith in
     sym (calls_none _ _)
     ∙ (rw e at l.invariant)
-    ∙ ⊎_elim
-    (λ w. rw (w.3, w.4) (w.1.ensures.1.same a.mem.now c.if-mem-ne16384.false (sym c.bad_levels.ensures ∙ c.if-bad_levels.false)))
-    (λ w. rw (w.1, w.2))
-    c.if-both.branch
+    ∙ elim c.if-both.branch [
+      | then-both w ↦
+          rw (w.on-is, w.left-is)
+          (w.leap_on-ahead.ensures.1.same a.mem.now c.if-mem-ne16384.false (sym c.bad_levels.ensures ∙ c.if-bad_levels.false))
+      | else-both w ↦ rw (w.on-is, w.left-is)
+    ]
 
 pub loop-left-init : goal.loop-left-init
 loop-left-init c = refl

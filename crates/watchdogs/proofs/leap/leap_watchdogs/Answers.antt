@@ -1,11 +1,10 @@
 -- `leap_watchdogs` meets its contract: the loop leaps one element a turn (`Stepped`).
-use Prim.Native.Nat.{◌-◌}
 use native.Mathlib.Omega.{arith}
 use mathlib.Core.Path.{◌≡◌}
 use lib.ListN.{length}
 use Rattle.lists.proofs.Sweep.{step_all, step_more, step_none}
 use Rattle.watchdogs.specs.Watchdog.{watchdog0}
-use Rattle.watchdogs.specs.Leap.{leap_watchdogs, watchdog_after}
+use Rattle.watchdogs.specs.Leap.{leap_watchdogs}
 use borrow.Author.Rules.{rules}
 use Rattle.watchdogs.proofs.leap.leap_watchdogs.Goals as goal
 

@@ -1,11 +1,10 @@
 -- `reset_watchdogs` meets its contract: the loop steps one element a turn (`Stepped`).
-use Prim.Native.Nat.{◌-◌}
 use native.Mathlib.Omega.{arith}
 use mathlib.Core.Path.{◌≡◌}
 use borrow.Author.Rules.{rules}
 use lib.ListN.{length}
 use Rattle.lists.proofs.Sweep.{step_all, step_more, step_none}
-use Rattle.watchdogs.specs.Watchdog.{reset_in, reset_watchdogs}
+use Rattle.watchdogs.specs.Watchdog.{reset_watchdogs}
 use Rattle.watchdogs.proofs.watchdog.reset_watchdogs.Goals as goal
 
 pub loop-i-init : goal.loop-i-init

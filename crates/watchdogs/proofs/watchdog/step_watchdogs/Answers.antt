@@ -1,10 +1,8 @@
 -- `step_watchdogs` meets its contract: the loop steps one element a turn (`Stepped`).
-use Prim.Native.Nat.{◌-◌}
 use native.Mathlib.Omega.{arith}
 use mathlib.Core.Path.{◌≡◌}
 use borrow.Author.Rules.{rules}
 use lib.ListN.{length}
-use Rattle.words.specs.Word.{bit}
 use Rattle.lists.proofs.Sweep.{step_all, step_more, step_none}
 use Rattle.watchdogs.specs.Watchdog.{step_watchdogs}
 use Rattle.watchdogs.proofs.watchdog.step_watchdogs.Goals as goal

@@ -16,4 +16,4 @@ returns-then-at-lt256 c =
 pub returns : goal.returns
 unfolding written
 returns c =
-    let e : length c.args.self.bytes ≡ 256 = search rules in (put_full _ _ _ e c.if-at-lt256.false, omega arith)
+    let e : length c.args.self.bytes ≡ 256 = search rules in (put_full _ _ _ e (assumption c), omega arith)

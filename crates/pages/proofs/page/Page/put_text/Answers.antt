@@ -1,9 +1,9 @@
 -- `Page::put_text` meets its contract. The loop's invariant: the first i bytes are put. The measure is what is left of the text.
-use Prim.Native.Nat.{◌-◌, ◌<◌}
+use Prim.Native.Nat.{◌<◌}
 use native.Mathlib.Omega.{arith}
 use mathlib.Core.Path.{◌∙◌}
 use borrow.Author.Rules.{rules}
-use lib.ListN.{length, take}
+use lib.ListN.{length}
 use lib.Seq.{take_all}
 use Rattle.pages.specs.Page.{written}
 use Rattle.pages.proofs.Pages.{same_page, text_more}
