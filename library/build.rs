@@ -1,4 +1,4 @@
-//! Links the archive that `rt staticlib mirvacula` writes.
+//! Links the archive that `tools/build library` writes.
 use std::path::Path;
 
 fn main() {

@@ -1,6 +1,6 @@
 """The program `convert` as its users run it: the trace that it writes, what it refuses, and how long it takes.
 
-`rt check convert` makes target/bin/convert. `python3 tools/convert_test.py` runs these checks and fails on a difference.
+`tools/build convert` makes target/bin/convert. `python3 tools/convert_test.py` runs these checks and fails on a difference.
 """
 
 import os

@@ -1,6 +1,6 @@
 """The program `rehearse` as its users run it: what it prints, what it leaves unread, and how long it takes.
 
-`rt check rehearse` makes target/bin/rehearse. `python3 tools/rehearse_test.py` runs these checks and fails on a difference.
+`tools/build rehearse` makes target/bin/rehearse. `python3 tools/rehearse_test.py` runs these checks and fails on a difference.
 """
 
 import os
