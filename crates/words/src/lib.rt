@@ -2,8 +2,9 @@
 #![tactic(auto)]
 
 mod field;
+mod made;
+mod selection;
 
-pub use field::{
-    bit, cut, down_of, gate_of, nibble, push, push_bit, put, put_down, put_gate, put_nibble,
-    put_up, up_of,
-};
+pub use field::{Field, bit, nibble, push, put_nibble};
+pub use made::{from_bits, from_fields};
+pub use selection::{DOWN, GATE, Selection, UP};

@@ -1,0 +1,33 @@
+// Words put together from parts.
+ghost use Rattle.std.specs.Prelude.{◌≡◌, ℕ, Bool, ◌*◌, ◌^◌, ◌≤◌, ◌<◌};
+ghost use Rattle.words.specs.Word.{bit_of, fields as word_fields, pack as word_pack};
+
+// The word of n fields of `width` bits, the first lowest: field i is part(i).
+pub fn from_fields<F: Fn(usize) -> u16>(n: usize, width: u32, part: F) -> u16
+    requires room { (0 < width) × (n * width ≤ 16) }
+    requires callable { (i : ℕ) → i < n → F.pre part i }
+    requires small { (i v : ℕ) → i < n → F.post part i v → v < 2 ^ width }
+    ensures { (f : ℕ → ℕ) → ((i v : ℕ) → i < n → F.post part i v → v ≡ f i) → result ≡ word_fields width n f }
+{
+    let mut w: u16 = 0;
+    for i in 0..n {
+        w |= part(i) << (width * (i as u32));
+    }
+    w
+}
+
+// The word of n tests, the first in bit 0.
+pub fn from_bits<F: Fn(usize) -> bool>(n: usize, test: F) -> u16
+    requires room { n ≤ 16 }
+    requires callable { (i : ℕ) → i < n → F.pre test i }
+    ensures { (f : ℕ → Bool) → ((i : ℕ) (b : Bool) → i < n → F.post test i b → b ≡ f i) → result ≡ word_pack n f }
+{
+    from_fields(
+        n,
+        1,
+        |i: usize| -> u16
+            requires { F.pre test i }
+            ensures { (b : Bool) × F.post test i b × (result ≡ bit_of b) }
+        { u16::from(test(i)) },
+    )
+}

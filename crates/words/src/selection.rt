@@ -1,0 +1,42 @@
+// The selections of a counter, three fields of its input register.
+ghost use Rattle.std.specs.Prelude.{◌≡◌};
+ghost use Rattle.words.specs.Word.{field_of, put_of};
+
+use crate::field::Field;
+
+pub const UP: Field = Field { at: 0, width: 6 };
+
+pub const DOWN: Field = Field { at: 6, width: 6 };
+
+pub const GATE: Field = Field { at: 12, width: 4 };
+
+#[derive(Clone, Copy)]
+pub struct Selection {
+    pub up: u16,
+    pub down: u16,
+    pub gate: u16,
+}
+
+impl Selection {
+    // The selections in an input register: UP in bits 5-0, DOWN in 11-6, GATE in 15-12.
+    pub fn of(w: u16) -> Selection
+        ensures up { result.up ≡ field_of w 0 6 }
+        ensures down { result.down ≡ field_of w 6 6 }
+        ensures gate { result.gate ≡ field_of w 12 4 }
+    {
+        Selection {
+            up: UP.of(w),
+            down: DOWN.of(w),
+            gate: GATE.of(w),
+        }
+    }
+
+    // An input register with these selections, the low bits of each.
+    pub fn put(self, w: u16) -> u16
+        ensures { result ≡ put_of (put_of (put_of w 0 6 self.up) 6 6 self.down) 12 4 self.gate }
+    {
+        let with_up = UP.put(w, self.up);
+        let with_down = DOWN.put(with_up, self.down);
+        GATE.put(with_down, self.gate)
+    }
+}
