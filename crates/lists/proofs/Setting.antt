@@ -3,7 +3,7 @@ use Prim.Native.Nat.{◌+◌, ◌≤◌}
 use native.Mathlib.Omega.{arith}
 use mathlib.Core.List.{List, ◌++◌, append-nil}
 use mathlib.Core.Path.{◌≡◌, ap, ◌∙◌}
-use lib.ListN.{drop, drop_of_length-le, length}
+use lib.ListN.{drop_of_length-le, length}
 use lib.Seq.{sets, sets-eq}
 
 pub all_set : {A : Type 0} (xs vs : List A) → length vs ≡ length xs → sets xs 0 vs ≡ vs
