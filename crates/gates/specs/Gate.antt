@@ -4,10 +4,6 @@ use Rattle.bools.specs.Pick.{pick}
 use Rattle.words.specs.Word.{bit, fields, pack}
 use Rattle.lists.specs.Table.{each}
 use Rattle.gates.specs.declared.gate.Gate.{Gate}
-use Rattle.gates.specs.declared.gate.GateBit.{GateBit}
-use Rattle.gates.specs.declared.gate.GateBit.TheVariants.{OutputBit, ErrorBit, ModeBit, PrepareBit, RecoverBit}
-use Rattle.gates.specs.declared.gate.GateChange.{GateChange}
-use Rattle.gates.specs.declared.gate.GateChange.TheVariants.{Tick, SetMode, SetPrepare, SetRecover, PulsePrepare, PulseRecover}
 use Rattle.gates.specs.declared.gate.GateState.{GateState}
 use Rattle.gates.specs.declared.gate.GateState.TheVariants.{Idle, Prepare, Open, Waiting, Error, Recover, Direct}
 use Rattle.lines.specs.Lines.{gate_count}
@@ -159,14 +155,6 @@ abbrev pub with_recover_pulse : Bool → Gate → Gate
 with_recover_pulse b g = gate_with g g.timeout g.mode g.prepare g.recover g.preparepulse (g.recoverpulse || b)
 
 -- the changes that all gates can make, each by a bit of its own
-abbrev pub change_of : GateChange → Bool → Gate → Gate
-change_of Tick = gate_step
-change_of SetMode = with_mode
-change_of SetPrepare = with_prepare
-change_of SetRecover = with_recover
-change_of PulsePrepare = with_prepare_pulse
-change_of PulseRecover = with_recover_pulse
-
 -- all twelve gates, gate g by bit g of a word
 unfoldable pub each_gate : (Bool → Gate → Gate) → ℕ → List Gate → List Gate
 each_gate f w gates = each gate_count gate0 (λ i. f (bit w i)) gates
@@ -192,13 +180,6 @@ prepare g = g.prepare
 
 abbrev pub recover : Gate → Bool
 recover g = g.recover
-
-abbrev pub bit_in : GateBit → Gate → Bool
-bit_in OutputBit = output
-bit_in ErrorBit = failed
-bit_in ModeBit = mode
-bit_in PrepareBit = prepare
-bit_in RecoverBit = recover
 
 -- the outputs of the gate logic, gate 0 lowest: 12 to 15 are low
 unfoldable pub outputs_of : List Gate → ℕ

@@ -1,9 +1,11 @@
 // A gate: its logic's state and timer, its register bits, the pulses since the last tick, and what the last tick left.
-ghost use Rattle.std.specs.Prelude.{◌≡◌, ◌-◌, ◌<◌};
-ghost use Rattle.gates.specs.Gate.{state_number, from_idle, from_prepare, from_open, from_waiting, from_error, from_recover, from_direct, next_state, in_prepare, timer_of, output_of, gate_step, with_timeout, with_mode, with_prepare, with_recover, with_prepare_pulse, with_recover_pulse, change_of, each_gate, bit_in, gate_bits, state_word};
+ghost use Rattle.std.specs.Prelude.{◌≡◌, Bool, ◌-◌, ◌<◌};
+ghost use Rattle.gates.specs.Gate.{state_number, from_idle, from_prepare, from_open, from_waiting, from_error, from_recover, from_direct, next_state, in_prepare, timer_of, output_of, gate_step, with_timeout, with_mode, with_prepare, with_recover, with_prepare_pulse, with_recover_pulse, each_gate, gate_bits, state_word, failed, prepare_signal, recover_signal};
+
+use std::array;
 
 // The states in the order of the Manual's IDs 0 to 6; Open is the Manual's GATE.
-#[derive(Clone, Copy)]
+#[derive(Clone, Copy, PartialEq, Eq)]
 pub enum GateState {
     Idle,
     Prepare,
@@ -31,39 +33,12 @@ pub struct Gate {
     pub output: bool,
 }
 
-// What all gates can do at once, each by a bit of its own: a tick, a write to 0x0802, 0x0A03 or 0x0A04, an event's pulses.
-#[derive(Clone, Copy)]
-pub enum GateChange {
-    Tick,
-    SetMode,
-    SetPrepare,
-    SetRecover,
-    PulsePrepare,
-    PulseRecover,
-}
-
-// What a word over all gates shows of each.
-#[derive(Clone, Copy)]
-pub enum GateBit {
-    OutputBit,
-    ErrorBit,
-    ModeBit,
-    PrepareBit,
-    RecoverBit,
-}
-
-// The Manual's ID of a state.
-fn state_number(state: GateState) -> u16
-    ensures { result ≡ state_number state }
-{
-    match state {
-        GateState::Idle => 0,
-        GateState::Prepare => 1,
-        GateState::Open => 2,
-        GateState::Waiting => 3,
-        GateState::Error => 4,
-        GateState::Recover => 5,
-        GateState::Direct => 6,
+impl GateState {
+    // The Manual's ID of a state.
+    fn number(self) -> u16
+        ensures { result ≡ state_number self }
+    {
+        self as u16
     }
 }
 
@@ -154,9 +129,9 @@ fn next_state(g: Gate, high: bool) -> GateState
     ensures { result ≡ next_state g.state g high }
 {
     let state = g.state;
-    let prepare = bools::either(g.prepare, g.preparepulse);
-    let recover = bools::either(g.recover, g.recoverpulse);
-    let rises = bools::without(prepare, g.lastprepare);
+    let prepare = g.prepare_signal();
+    let recover = g.recover_signal();
+    let rises = prepare && !g.lastprepare;
     match state {
         GateState::Idle => from_idle(g.mode, high, rises),
         GateState::Prepare => from_prepare(high, g.timer <= 1),
@@ -172,38 +147,18 @@ fn next_state(g: Gate, high: bool) -> GateState
 pub fn in_prepare(state: GateState) -> bool
     ensures { result ≡ in_prepare state }
 {
-    match state {
-        GateState::Idle => false,
-        GateState::Prepare => true,
-        GateState::Open => false,
-        GateState::Waiting => false,
-        GateState::Error => false,
-        GateState::Recover => false,
-        GateState::Direct => false,
-    }
-}
-
-// So much less, and 0 at the least.
-pub fn less(n: u32, k: u32) -> u32
-    ensures { result ≡ n - k }
-{
-    if n <= k {
-        return 0;
-    }
-    n - k
+    state == GateState::Prepare
 }
 
 // The timer after a tick: set on the way into PREPARE, one less while there.
 fn timer_of(was: bool, is: bool, timer: u32, timeout: u16) -> u32
     ensures { result ≡ timer_of was is timer timeout }
 {
-    if is {
-        if was {
-            return less(timer, 1);
-        }
-        return 16384 * (timeout as u32);
+    match (is, was) {
+        (false, _) => timer,
+        (true, true) => timer.saturating_sub(1),
+        (true, false) => 16384 * (timeout as u32),
     }
-    timer
 }
 
 // The output in a state.
@@ -211,18 +166,29 @@ pub fn output_of(state: GateState, high: bool) -> bool
     ensures { result ≡ output_of state high }
 {
     match state {
-        GateState::Idle => false,
-        GateState::Prepare => false,
         GateState::Open => true,
-        GateState::Waiting => false,
-        GateState::Error => false,
-        GateState::Recover => false,
         GateState::Direct => high,
+        _ => false,
     }
 }
 
 impl Gate {
+    // The prepare signal: its register bit, or an event's pulse.
+    fn prepare_signal(self) -> bool
+        ensures { result ≡ prepare_signal self }
+    {
+        self.prepare || self.preparepulse
+    }
+
+    // The recover signal.
+    fn recover_signal(self) -> bool
+        ensures { result ≡ recover_signal self }
+    {
+        self.recover || self.recoverpulse
+    }
+
     // One tick at the level of the gate's input.
+    #[tactic(auto, unfolding(crate::specs::Gate::gate_step))]
     pub fn step(self, high: bool) -> Gate
         ensures { result ≡ gate_step high self }
     {
@@ -230,7 +196,7 @@ impl Gate {
         let was = self.state;
         let timer = timer_of(in_prepare(was), in_prepare(state), self.timer, self.timeout);
         let output = output_of(state, high);
-        let lastprepare = bools::either(self.prepare, self.preparepulse);
+        let lastprepare = self.prepare_signal();
         Gate {
             state,
             timer,
@@ -253,98 +219,63 @@ impl Gate {
         self
     }
 
-    fn with_mode(mut self, b: bool) -> Gate
+    pub fn with_mode(mut self, b: bool) -> Gate
         ensures { result ≡ with_mode b self }
     {
         self.mode = b;
         self
     }
 
-    fn with_prepare(mut self, b: bool) -> Gate
+    pub fn with_prepare(mut self, b: bool) -> Gate
         ensures { result ≡ with_prepare b self }
     {
         self.prepare = b;
         self
     }
 
-    fn with_recover(mut self, b: bool) -> Gate
+    pub fn with_recover(mut self, b: bool) -> Gate
         ensures { result ≡ with_recover b self }
     {
         self.recover = b;
         self
     }
 
-    fn pulse_prepare(mut self, b: bool) -> Gate
+    pub fn pulse_prepare(mut self, b: bool) -> Gate
         ensures { result ≡ with_prepare_pulse b self }
     {
-        let pulse = bools::either(self.preparepulse, b);
-        self.preparepulse = pulse;
+        self.preparepulse = self.preparepulse || b;
         self
     }
 
-    fn pulse_recover(mut self, b: bool) -> Gate
+    pub fn pulse_recover(mut self, b: bool) -> Gate
         ensures { result ≡ with_recover_pulse b self }
     {
-        let pulse = bools::either(self.recoverpulse, b);
-        self.recoverpulse = pulse;
+        self.recoverpulse = self.recoverpulse || b;
         self
     }
 
-    // The gate after a change, by its bit.
-    pub fn change(self, how: GateChange, b: bool) -> Gate
-        ensures { result ≡ change_of how b self }
+    // The gate error bit.
+    pub fn failed(self) -> bool
+        ensures { result ≡ failed self }
     {
-        match how {
-            GateChange::Tick => self.step(b),
-            GateChange::SetMode => self.with_mode(b),
-            GateChange::SetPrepare => self.with_prepare(b),
-            GateChange::SetRecover => self.with_recover(b),
-            GateChange::PulsePrepare => self.pulse_prepare(b),
-            GateChange::PulseRecover => self.pulse_recover(b),
-        }
-    }
-
-    // A bit of the gate.
-    pub fn bit(self, which: GateBit) -> bool
-        ensures { result ≡ bit_in which self }
-    {
-        let state = self.state;
-        match which {
-            GateBit::OutputBit => self.output,
-            GateBit::ErrorBit => state_number(state) == 4,
-            GateBit::ModeBit => self.mode,
-            GateBit::PrepareBit => self.prepare,
-            GateBit::RecoverBit => self.recover,
-        }
+        self.state == GateState::Error
     }
 }
 
 // All gates after a change: gate i by bit i of a word.
-pub fn change_gates(gates: [Gate; 12], how: GateChange, w: u16) -> [Gate; 12]
-    ensures { result ≡ each_gate (change_of how) w gates }
+pub fn change_gates<F: Fn(Gate, bool) -> Gate>(gates: [Gate; 12], w: u16, change: F) -> [Gate; 12]
+    requires { F.IsAlwaysCallable change }
+    ensures { (f : Bool → Gate → Gate) → ((g : Gate) (b : Bool) (next : Gate) → F.post change g b next → next ≡ f b g) → result ≡ each_gate f w gates }
 {
-    let mut next = gates;
-    let mut i: usize = 0;
-    while i < 12 {
-        let g = next[i];
-        next[i] = g.change(how, words::bit(w as u64, i as u32));
-        i += 1;
-    }
-    next
+    array::from_fn(|i| change(gates[i], words::bit(w as u64, i as u32)))
 }
 
 // A bit of each gate as a word, gate 0 lowest.
-pub fn gate_bits(gates: [Gate; 12], which: GateBit) -> u16
-    ensures { result ≡ gate_bits (bit_in which) gates }
+pub fn gate_bits<F: Fn(Gate) -> bool>(gates: [Gate; 12], bit: F) -> u16
+    requires { F.IsAlwaysCallable bit }
+    ensures { (f : Gate → Bool) → ((g : Gate) (b : Bool) → F.post bit g b → b ≡ f g) → result ≡ gate_bits f gates }
 {
-    let mut w: u16 = 0;
-    let mut i: usize = 12;
-    while 0 < i {
-        i -= 1;
-        let g = gates[i];
-        w = words::push_bit(w, g.bit(which));
-    }
-    w
+    words::from_bits(12, |i| bit(gates[i]))
 }
 
 // The states of gates 4 k to 4 k + 3, four bits each.
@@ -352,13 +283,8 @@ pub fn state_word(gates: [Gate; 12], k: usize) -> u16
     requires { k < 3 }
     ensures { result ≡ state_word gates k }
 {
-    let mut w: u16 = 0;
-    let mut i: usize = 4;
-    while 0 < i {
-        i -= 1;
+    words::from_fields(4, 4, |i| {
         let g = gates[4 * k + i];
-        let state = g.state;
-        w = words::push(w, 4, state_number(state));
-    }
-    w
+        g.state.number()
+    })
 }

@@ -3,7 +3,4 @@
 
 mod gate;
 
-pub use gate::{
-    Gate, GateBit, GateChange, GateState, change_gates, gate_bits, in_prepare, less, output_of,
-    state_word,
-};
+pub use gate::{Gate, GateState, change_gates, gate_bits, in_prepare, output_of, state_word};

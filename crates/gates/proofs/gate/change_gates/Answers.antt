@@ -1,27 +1,10 @@
--- `change_gates` meets its contract: the loop changes one gate a turn (`Stepped`).
-use Prim.Native.Nat.{◌-◌}
-use native.Mathlib.Omega.{arith}
-use mathlib.Core.Path.{◌≡◌}
+-- `change_gates` meets its contract: each gate is changed (`from_fn_is`).
 use borrow.Author.Rules.{rules}
-use lib.ListN.{length}
-use Rattle.words.specs.Word.{bit}
-use Rattle.lists.proofs.Sweep.{step_all, step_more, step_none}
-use Rattle.gates.specs.Gate.{each_gate, gate0}
+use Rattle.lists.specs.Table.{each}
+use Rattle.lists.proofs.Made.{from_fn_is}
+use Rattle.gates.specs.Gate.{each_gate}
 use Rattle.gates.proofs.gate.change_gates.Goals as goal
 
-pub loop-i-init : goal.loop-i-init
-loop-i-init c =
-    let full : length c.args.gates ≡ 12 = search rules in (full, step_none 12 gate0 _ _ full)
-
-pub loop-i-preserved : goal.loop-i-preserved
-loop-i-preserved c =
-    let h = c.loop-i.invariant in
-    (h.0, step_more 12 gate0 _ _ h.0 h.1 (omega arith) (rw c.bit.ensures at c.change.ensures))
-
 pub returns : goal.returns
-unfolding each_gate
-returns c =
-    let h = c.loop-i.invariant in step_all 12 gate0 _ h.0 h.1 (omega arith)
-
-pub loop-i-smaller : goal.loop-i-smaller
-loop-i-smaller c = omega arith
+unfolding each_gate each
+returns g c = λ f k. from_fn_is _ _ _ _ 12 (λ i y q h m. search (rules, k)) c.from_fn.ensures.items

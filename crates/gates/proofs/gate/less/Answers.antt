@@ -1,2 +1,0 @@
--- `less` meets its contract, by its test.
-use Rattle.gates.proofs.gate.less.Goals as goal
