@@ -33,10 +33,10 @@ impl Selection {
 
     // An input register with these selections, the low bits of each.
     pub fn put(self, w: u16) -> u16
-        ensures { result ≡ put_of (put_of (put_of w 0 6 self.up) 6 6 self.down) 12 4 self.gate }
+        ensures { result ≡ put_of (put_of (put_of w 12 4 self.gate) 6 6 self.down) 0 6 self.up }
     {
-        let with_up = UP.put(w, self.up);
-        let with_down = DOWN.put(with_up, self.down);
-        GATE.put(with_down, self.gate)
+        let with_gate = GATE.put(w, self.gate);
+        let with_down = DOWN.put(with_gate, self.down);
+        UP.put(with_down, self.up)
     }
 }
