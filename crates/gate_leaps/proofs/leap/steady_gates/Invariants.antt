@@ -1,4 +1,3 @@
-use Prim.Native.Nat.{◌-◌, ◌≤◌}
 use mathlib.Core.Bool.{false, not}
 use mathlib.Core.Path.{◌≡◌}
 use Rattle.words.specs.Word.{bit}
@@ -8,7 +7,4 @@ use Rattle.gate_leaps.specs.Leap.{steady}
 use Rattle.gate_leaps.proofs.leap.steady_gates.Given as goal
 
 abbrev pub invariant-loop-i : goal.invariant-loop-i
-invariant-loop-i l = (l.i ≤ 12) × (any l.i (λ g. not (steady l.k (bit l.levels g) (gate_at l.gates g))) ≡ false)
-
-abbrev pub decreases-loop-i : goal.decreases-loop-i
-decreases-loop-i l = 12 - l.i
+invariant-loop-i l = any l.i (λ g. not (steady l.k (bit l.levels g) (gate_at l.fn.gates g))) ≡ false
