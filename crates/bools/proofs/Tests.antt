@@ -1,9 +1,11 @@
 -- Laws of `pick` and of tests.
 use Prim.Native.Nat.{ℕ}
+use native.Mathlib.Omega.{arith}
 use mathlib.Core.Bool.{Bool, true, false, not, ◌&&◌, ◌||◌, false≢true, true≢false}
-use mathlib.Core.Path.{◌≡◌, refl, sym, ◌∙◌}
-use borrow.Author.Tests.{eqb-true, eqb-false, lt-ltb, le-ltb, le-leb, lt-leb, eq-eqb, ne_eqb}
+use mathlib.Core.Path.{◌≡◌, refl}
+use borrow.Author.Tests.{lt-ltb, le-ltb, le-leb, lt-leb, eq-eqb, ne_eqb}
 use lib.Dec.{eqb}
+use Rattle.std.proofs.lemmas.Bool.Decides.{nat_tests}
 use Rattle.bools.specs.Pick.{pick}
 
 -- a test's value from a fact on the way: the rules by which a chain of refusals or of addresses is followed
@@ -34,10 +36,7 @@ both P false p q = q
 
 -- two tests agree where each gives the other
 pub agree : (a b c d : ℕ) → (a ≡ b → c ≡ d) → (c ≡ d → a ≡ b) → eqb a b ≡ eqb c d
-agree a b c d f g =
-    cases (eqb a b)
-    (λ e. e ∙ sym (eq-eqb c d (f (eqb-true a b e))))
-    (λ e. e ∙ sym (ne_eqb c d (λ h. eqb-false a b e (g h))))
+agree a b c d f g = grind (arith, nat_tests)
 
 -- a test and another that both hold, taken apart
 pub and_left : (a b : Bool) → a && b ≡ true → a ≡ true
