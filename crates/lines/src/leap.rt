@@ -3,7 +3,8 @@ ghost use Rattle.std.specs.Prelude.{◌≡◌, ◌*◌, ◌^◌, ◌<◌};
 ghost use Rattle.lists.specs.Table.{tabulate};
 ghost use Rattle.lines.specs.Leap.{leap_phases, low_phases, phase_after, phase_total, rises_in};
 
-use crate::lines::frequency;
+use crate::lines::{LIMIT, frequency};
+use std::array;
 
 // A phase with its signal's frequency added k times.
 fn phase_total(k: u32, j: usize, phase: u32) -> u64
@@ -18,20 +19,14 @@ fn phase_after(k: u32, j: usize, phase: u32) -> u32
     requires { j < 9 }
     ensures { result ≡ phase_after k j phase }
 {
-    (phase_total(k, j, phase) % 125000) as u32
+    (phase_total(k, j, phase) % LIMIT) as u32
 }
 
 // All phases, k ticks on.
 pub fn leap_phases(phases: [u32; 9], k: u32) -> [u32; 9]
     ensures { result ≡ leap_phases k phases }
 {
-    let mut next = phases;
-    let mut i: usize = 0;
-    while i < 9 {
-        next[i] = phase_after(k, i, next[i]);
-        i += 1;
-    }
-    next
+    array::from_fn(|j| phase_after(k, j, phases[j]))
 }
 
 // The rises of selection value u in k ticks.
@@ -43,20 +38,14 @@ fn rises_at(phases: [u32; 9], k: u32, u: usize) -> u32
         return 0;
     }
     let j = u - 55;
-    (phase_total(k, j, phases[j]) / 125000) as u32
+    (phase_total(k, j, phases[j]) / LIMIT) as u32
 }
 
 // The rises of each selection value in k ticks in which no input rises.
 pub fn rises_in(phases: [u32; 9], k: u32) -> [u32; 64]
     ensures { result ≡ tabulate 64 (rises_in k phases) }
 {
-    let mut rises = [0u32; 64];
-    let mut u: usize = 0;
-    while u < 64 {
-        rises[u] = rises_at(phases, k, u);
-        u += 1;
-    }
-    rises
+    array::from_fn(|u| rises_at(phases, k, u))
 }
 
 // Whether every phase is below 125,000.
@@ -64,12 +53,10 @@ pub fn rises_in(phases: [u32; 9], k: u32) -> [u32; 64]
 pub fn low_phases(phases: [u32; 9]) -> bool
     ensures { result ≡ low_phases phases }
 {
-    let mut i: usize = 0;
-    while i < 9 {
-        if 125000 <= phases[i] {
+    for phase in phases {
+        if LIMIT <= phase as u64 {
             return false;
         }
-        i += 1;
     }
     true
 }

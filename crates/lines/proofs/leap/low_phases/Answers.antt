@@ -1,7 +1,5 @@
 -- `low_phases` meets its contract: the loop goes on while no phase has reached 125,000 (`any_more`).
-use Prim.Native.Nat.{◌-◌}
 use native.Mathlib.Omega.{arith}
-use mathlib.Core.Bool.{false}
 use mathlib.Core.Path.{◌≡◌, refl}
 use lib.Dec.{leb}
 use lib.ListN.{get_or}
@@ -11,21 +9,17 @@ use Rattle.lists.proofs.Tables.{any_more}
 use Rattle.lines.specs.Leap.{low_phases}
 use Rattle.lines.proofs.leap.low_phases.Goals as goal
 
-pub loop-i-init : goal.loop-i-init
+pub loop-phase-init : goal.loop-phase-init
 unfolding any
-loop-i-init c = (omega arith, refl)
+loop-phase-init c = refl
 
-pub loop-i-preserved : goal.loop-i-preserved
-loop-i-preserved c =
-    let l = c.loop-i in
-    (omega arith, any_more l.i (λ j. leb 125000 (get_or c.args.phases j 0)) l.invariant.1 (lt-leb _ _ (assumption c)))
+pub loop-phase-preserved : goal.loop-phase-preserved
+loop-phase-preserved c =
+    any_more c.loop-phase.phase-index (λ j. leb 125000 (get_or c.args.phases j 0)) c.loop-phase.invariant (lt-leb _ _ (assumption c))
 
 pub returns : goal.returns
 unfolding low_phases
 returns c =
-    let l = c.loop-i in
-    let e : l.i ≡ 9 = omega arith in
-    rw (rw e at l.invariant.1)
-
-pub loop-i-smaller : goal.loop-i-smaller
-loop-i-smaller c = omega arith
+    let l = c.loop-phase in
+    let e : l.phase-index ≡ 9 = omega arith in
+    rw (rw e at l.invariant)

@@ -7,8 +7,8 @@ use Rattle.lines.proofs.lines.phase_step.Goals as goal
 pub overflow_cast-result : goal.overflow_cast-result
 overflow_cast-result c = omega (arith, frequency_le c.args.k)
 
-pub returns-then-sum-ge125000 : goal.returns-then-sum-ge125000
-returns-then-sum-ge125000 c = rw (← c.phase_sum-sum.ensures) (search le-leb)
+pub returns-then-sum-ge-LIMIT : goal.returns-then-sum-ge-LIMIT
+returns-then-sum-ge-LIMIT c = rw (← c.phase_sum-sum.ensures) (search le-leb)
 
 pub returns : goal.returns
 returns c = rw (← c.phase_sum-sum.ensures) (search lt-leb)
