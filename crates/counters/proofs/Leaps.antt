@@ -1,7 +1,7 @@
 -- A tick with the gate's output as it was and then k is k + 1, and a tick and then none is the tick: of a count, of a counter, and of all.
 use Prim.{tt}
-use Prim.Native.Nat.{ℕ, ◌+◌, ◌-◌, ◌*◌, ◌/◌, ◌%◌, ◌^◌, ◌<◌}
-use native.Mathlib.Nat.{div-add-mod', mod-lt, not-suc-le-zero}
+use Prim.Native.Nat.{ℕ, suc, ◌+◌, ◌-◌, ◌*◌, ◌%◌, ◌^◌, ◌<◌}
+use native.Mathlib.Nat.{mod-lt, not-suc-le-zero}
 use native.Mathlib.Omega.{arith}
 use mathlib.Core.Bool.{Bool, true, false, not, ◌&&◌}
 use mathlib.Core.List.{List}
@@ -11,7 +11,9 @@ use lib.Dec.{lit<, ltb}
 use lib.IntN.{ℤ, pos, negsuc, ◌+ℤ◌, ◌-ℤ◌}
 use lib.ListN.{get_or}
 use lib.Signed.{mag}
-use Rattle.numbers.specs.Signed.{high_word, joined, low_word, signed, word_of, wrapped}
+use mir.Syntax.{w32}
+use mir.Val.{SFits, of_z, to_z}
+use Rattle.numbers.specs.Signed.{signed, word_of, wrapped}
 use Rattle.words.specs.Word.{bit, bit_of}
 use Rattle.numbers.proofs.Adding.{word_add}
 use Rattle.numbers.proofs.Complement.{word_lt, word_signed, wrapped_lt, wrapped_same}
@@ -49,16 +51,23 @@ count_none z h =
     let e : (word_of 32 z + 0 + 4294967295 * 0) % 4294967296 ≡ word_of 32 z = omega (arith, word_lt 32 z) in
     ap (signed 32) e ∙ wrapped_same 32 z h
 
--- the same as the code has it: in two words of 16 bits
-abbrev pub next_word : ℤ → ℕ → ℕ → ℕ
-next_word z ups downs = (high_word z * 65536 + low_word z + ups + 4294967295 * downs) % 4294967296
+-- the same as the code has it, in the bits of the number
+number_of : (z : ℤ) → SFits w32 z → of_z w32 z ≡ word_of 32 z
+number_of (pos n) f = omega (arith, f.sfits)
+number_of (negsuc n) f = omega (arith, f.sfits)
 
-pub count_code : (z : ℤ) (ups downs : ℕ) → joined (next_word z ups downs % 65536) (next_word z ups downs / 65536) ≡ count_after z ups downs
+signed_of : (n : ℕ) → n < 2 ^ 32 → to_z w32 n ≡ signed 32 n
+signed_of n h =
+    cases (ltb n 2147483648)
+    (λ e. rw e)
+    (λ e. let s : 2 ^ 32 - suc n ≡ 2 ^ 32 - (n + 1) = omega arith in rw e (ap negsuc s))
+
+pub count_code : (z : ℤ) (ups downs : ℕ) → SFits w32 z → downs < 2 ^ 32 →
+    to_z w32 (((of_z w32 z + ups) % 2 ^ 32 + (2 ^ 32 - downs)) % 2 ^ 32) ≡ count_after z ups downs
 unfolding count_after
-count_code z ups downs =
-    ap (signed 32)
-    (div-add-mod' (next_word z ups downs) 65536
-    ∙ ap (λ (n : ℕ). (n + ups + 4294967295 * downs) % 4294967296) (div-add-mod' (word_of 32 z) 65536))
+count_code z ups downs f h =
+    let e : ((word_of 32 z + ups) % 2 ^ 32 + (2 ^ 32 - downs)) % 2 ^ 32 ≡ (word_of 32 z + ups + 4294967295 * downs) % 4294967296 = omega arith in
+    signed_of _ (mod-lt _ (lit< tt)) ∙ ap (signed 32) (rw (number_of z f) e)
 
 -- ---- a counter whose gate's output is as it was at the last tick
 
@@ -144,15 +153,6 @@ table_rises control is f xs =
     tabulate_ext 128 _ _ (λ n h. counter_rises control is _ f (λ u l. get_d_tabulate 64 f u 0 l) (get_or xs n counter0))
 
 -- ---- all counters
-
--- one count more is in range
-pub ranged_none : (xs : List Counter) → Ranged xs 0
-ranged_none xs = record { counts = λ i h. absurd (not-suc-le-zero h) }
-
-pub ranged_more : (xs : List Counter) (n : ℕ) (c : Counter) → Ranged xs n → c ≡ get_or xs n counter0 → mag c.count < 2 ^ 31 → Ranged xs (n + 1)
-ranged_more xs n c r e h = record {
-  counts = λ i l. cases (ltb i n) (λ f. r.counts i (ltb-true i n f)) (λ f. let s : i ≡ n = omega (arith, ltb-false i n f) in rw (s, ← e) h);
-}
 
 module _ (control w is : ℕ) (xs : List Counter) where
   -- what a tick's rises and those of the other ticks add up to, for each selection value

@@ -29,18 +29,6 @@ pub fn load(mem: &[u16], dataset: usize, n: usize, c: Counter) -> Counter
     c.with_thresholds(0, 0)
 }
 
-// The words of src over those of dst.
-fn copy(dst: &mut [u16], src: &[u16])
-    requires { length src.now ≡ length dst.old }
-    ensures { dst.new ≡ src.now }
-{
-    let mut i: usize = 0;
-    while i < dst.len() {
-        dst[i] = src[i];
-        i += 1;
-    }
-}
-
 // 512 words over one dataset; every other word stays.
 pub fn download(mem: &mut [u16], dataset: usize, words: &[u16])
     requires { (length mem.old ≡ 16384) × (length words.now ≡ 512) × (dataset < 32) }
@@ -48,16 +36,12 @@ pub fn download(mem: &mut [u16], dataset: usize, words: &[u16])
 {
     let base = 512 * dataset;
     let end = base + 512;
-    copy(&mut mem[base..end], words);
+    mem[base..end].copy_from_slice(words);
 }
 
 // Every word 0.
 pub fn clear_memory(mem: &mut [u16])
     ensures { mem.new ≡ tabulate (length mem.old) (λ a. 0) }
 {
-    let mut i: usize = 0;
-    while i < mem.len() {
-        mem[i] = 0;
-        i += 1;
-    }
+    mem.fill(0);
 }

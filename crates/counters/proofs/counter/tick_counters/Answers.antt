@@ -1,25 +1,11 @@
--- `tick_counters` meets its contract: the loop steps one counter a turn (`Stepped`).
-use Prim.Native.Nat.{◌-◌}
-use native.Mathlib.Omega.{arith}
-use mathlib.Core.Path.{◌≡◌}
+-- `tick_counters` meets its contract: each counter is stepped (`from_fn_is`).
 use borrow.Author.Rules.{rules}
-use lib.ListN.{length}
-use Rattle.lists.proofs.Sweep.{step_all, step_more, step_none}
-use Rattle.counters.specs.Counter.{counter0, tick_counters}
+use Rattle.lists.specs.Table.{each}
+use Rattle.lists.proofs.Made.{from_fn_is}
+use Rattle.counters.specs.Counter.{tick_counters}
+use Rattle.counters.proofs.Banks.{counter_read}
 use Rattle.counters.proofs.counter.tick_counters.Goals as goal
 
-pub loop-i-init : goal.loop-i-init
-loop-i-init c =
-    let full : length c.args.counters ≡ 128 = search rules in (full, step_none 128 counter0 _ _ full)
-
-pub loop-i-preserved : goal.loop-i-preserved
-loop-i-preserved c =
-    let h = c.loop-i.invariant in (h.0, step_more 128 counter0 _ _ h.0 h.1 (omega arith) c.tick.ensures)
-
 pub returns : goal.returns
-unfolding tick_counters
-returns c =
-    let h = c.loop-i.invariant in step_all 128 counter0 _ h.0 h.1 (omega arith)
-
-pub loop-i-smaller : goal.loop-i-smaller
-loop-i-smaller c = omega arith
+unfolding tick_counters each
+returns c = from_fn_is _ _ _ _ 128 (λ i y q h m. rw (counter_read c.args.counters i (search rules) h) (search rules)) c.from_fn.ensures.items

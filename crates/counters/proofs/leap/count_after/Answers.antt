@@ -1,4 +1,4 @@
--- `count_after` meets its contract: a word in two halves (`count_code`).
+-- `count_after` meets its contract: in the bits of the number (`count_code`).
 use mathlib.Core.Path.{◌∙◌}
 use mir.Syntax.{w32}
 use mir.ValLaws.{to_z-of_z}
@@ -8,6 +8,6 @@ use Rattle.counters.proofs.leap.count_after.Goals as goal
 pub returns : goal.returns
 returns c =
     let a = c.args in
-    to_z-of_z w32 c.join.result (record { sfits = c.join.type_inv })
-    ∙ (rw (c.low.ensures, c.high.ensures, to_z-of_z w32 a.z c.ranges.z) at c.join.ensures)
-    ∙ count_code a.z a.ups a.downs
+    to_z-of_z w32 c.cast_signed.result (record { sfits = c.cast_signed.type_inv })
+    ∙ (rw (c.cast_unsigned.ensures, to_z-of_z w32 a.z c.ranges.z) at c.cast_signed.ensures)
+    ∙ count_code a.z a.ups a.downs c.ranges.z c.ranges.downs.fits

@@ -1,38 +1,20 @@
--- `leap_counters` meets its contract: the loop leaps one counter a turn (`Stepped`), and each was in range (`Ranged`).
-use Prim.Native.Nat.{◌-◌, ◌<◌}
-use native.Mathlib.Omega.{arith}
-use mathlib.Core.Path.{◌≡◌, ◌∙◌}
-use lib.ListN.{length}
-use Rattle.lists.proofs.Sweep.{get_d_any, step_all, step_more, step_none, swept_at}
-use Rattle.counters.specs.Counter.{counter0}
-use Rattle.counters.specs.Leap.{counter_after, leap_counters}
-use Rattle.counters.proofs.Leaps.{ranged_more, ranged_none}
+-- `leap_counters` meets its contract: each counter leaps (`from_fn_is`), and each was in range (`calls_say`).
+use Prim.Native.Nat.{ℕ, ◌^◌, ◌<◌}
 use borrow.Author.Rules.{rules}
+use lib.ListN.{get_or}
+use lib.Signed.{mag}
+use Rattle.lists.specs.Table.{each}
+use Rattle.lists.proofs.Made.{from_fn_is}
+use Rattle.counters.specs.Counter.{counter0}
+use Rattle.counters.specs.Leap.{leap_counters}
+use Rattle.counters.proofs.Banks.{calls_say, counter_read}
 use Rattle.counters.proofs.leap.leap_counters.Goals as goal
 
-pub loop-i-init : goal.loop-i-init
-loop-i-init c =
-    let full : length c.args.counters ≡ 128 = search rules in (full, step_none 128 counter0 _ _ full, ranged_none _, omega arith)
-
-pub loop-i-preserved : goal.loop-i-preserved
-loop-i-preserved c =
-    let h = c.loop-i.invariant in
-    let l = c.loop-i in
-    let xs = c.args.counters in
-    let below : l.i < length xs = omega arith in (
-      h.0,
-      step_more 128 counter0 _ _ h.0 h.1 (omega arith) c.counter_after.ensures.0,
-      ranged_more _ l.i _ h.2 (swept_at _ h.1 below ∙ get_d_any xs l.i _ counter0 below) c.counter_after.ensures.1,
-      omega arith,
-    )
-
 pub returns : goal.returns
-unfolding leap_counters
+unfolding leap_counters each
 returns c =
-    let l = c.loop-i in
-    let h = l.invariant in
-    let e : l.i ≡ 128 = omega arith in
-    (step_all 128 counter0 _ h.0 h.1 (omega arith), rw e at h.2)
-
-pub loop-i-smaller : goal.loop-i-smaller
-loop-i-smaller c = omega arith
+    let xs = c.args.counters in
+    let made = c.from_fn.ensures.items in (
+      from_fn_is _ _ _ _ 128 (λ i y q h m. rw (counter_read xs i (search rules) h) (search rules)) made,
+      record { counts = calls_say _ _ (λ i. mag (get_or xs i counter0).count < 2 ^ 31) _ 128 (λ i y q h m. rw (counter_read xs i (search rules) h) (search rules)) made },
+    )

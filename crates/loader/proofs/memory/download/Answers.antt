@@ -10,4 +10,4 @@ unfolding replaced
 returns c =
     let a = c.args in
     let base = 512 * a.dataset in
-    rw (c.copy.ensures, Post-is base (base + 512) a.mem.now (omega arith), c.requires.1)
+    rw (c.copy_from_slice.ensures.after, Post-is base (base + 512) a.mem.now (omega arith), c.requires.1)
