@@ -15,7 +15,8 @@ ghost use Rattle.interlocks.specs.Together.{wants as together_wants};
 use crate::signals::{meet, other_signals};
 use counters::Counter;
 use device::{Answer, Crate, Rest};
-use gates::GateBit;
+use gates::Gate;
+use std::array;
 
 // What a scan answers: for each output its level, and how many of its selection words were read; all 0 where it is refused.
 #[derive(Clone, Copy)]
@@ -41,12 +42,10 @@ fn any_wants(ended: [u16; 6], selections: &[u16; 132], k: usize) -> bool
     requires { k < 22 }
     ensures { result ≡ any_wants ended selections.now k }
 {
-    let mut o: usize = 0;
-    while o < 6 {
+    for o in 0..6 {
         if wants(ended[o], selections, o, k) {
             return true;
         }
-        o += 1;
     }
     false
 }
@@ -70,13 +69,7 @@ fn after_words(ended: [u16; 6], selections: &[u16; 132], present: u16, k: usize)
     requires { k < 22 }
     ensures { result ≡ after_words selections.now present k ended }
 {
-    let mut next = ended;
-    let mut o: usize = 0;
-    while o < 6 {
-        next[o] = after_word(next[o], selections, o, present, k);
-        o += 1;
-    }
-    next
+    array::from_fn(|o| after_word(ended[o], selections, o, present, k))
 }
 
 // Where the scans ended, after all words. The overflows are worked out here, as each further call would copy all counters; of the gates
@@ -86,8 +79,7 @@ fn ended_by(counters: [Counter; 128], errors: u16, rest: Rest) -> [u16; 6]
 {
     let selections = rest.selections;
     let mut ended = [0u16; 6];
-    let mut k: usize = 0;
-    while k < 22 {
+    for k in 0..22 {
         if any_wants(ended, &selections, k) {
             let present = if k < 16 {
                 counters::overflow_word(counters, 8 <= k, k % 8)
@@ -97,7 +89,6 @@ fn ended_by(counters: [Counter; 128], errors: u16, rest: Rest) -> [u16; 6]
             let next = after_words(ended, &selections, present, k);
             ended = next;
         }
-        k += 1;
     }
     ended
 }
@@ -111,13 +102,7 @@ pub fn outputs(s: Crate, errors: u16) -> u16
     let counters = s.counters;
     let rest = s.rest;
     let ended = ended_by(counters, errors, rest);
-    let mut w: u16 = 0;
-    let mut o: usize = 6;
-    while 0 < o {
-        o -= 1;
-        w = words::push_bit(w, ended[o] == 0);
-    }
-    w
+    words::from_bits(6, |o| ended[o] == 0)
 }
 
 // The level of an output, by where its scan ended.
@@ -141,19 +126,11 @@ pub fn scan_outputs(s: Crate) -> Scan
     let counters = s.counters;
     let gates = s.gates;
     let rest = s.rest;
-    let errors = gates::gate_bits(gates, GateBit::ErrorBit);
+    let errors = gates::gate_bits(gates, Gate::failed);
     let ended = ended_by(counters, errors, rest);
-    let mut levels = [0u16; 6];
-    let mut words = [0u16; 6];
-    let mut o: usize = 0;
-    while o < 6 {
-        levels[o] = level(ended[o]);
-        words[o] = words_read(ended[o]);
-        o += 1;
-    }
     Scan {
         answer: Answer::Done,
-        levels,
-        words,
+        levels: array::from_fn(|o| level(ended[o])),
+        words: array::from_fn(|o| words_read(ended[o])),
     }
 }

@@ -20,7 +20,7 @@ pub fn other_signals(errors: u16, rest: Rest, k: usize) -> u16
     }
     if k < 21 {
         let watchdogs = rest.watchdogs;
-        return watchdogs::watchdog_word(watchdogs, true, k - 17);
+        return watchdogs::error_word(watchdogs, k - 17);
     }
     low_gates(rest)
 }

@@ -9,7 +9,7 @@ use Rattle.interlocks.proofs.scan.any_wants.Goals as goal
 
 pub loop-o-init : goal.loop-o-init
 unfolding any
-loop-o-init c = (omega arith, refl)
+loop-o-init c = refl
 
 pub returns-then-wants : goal.returns-then-wants
 unfolding any_wants
@@ -19,13 +19,10 @@ returns-then-wants c =
 
 pub loop-o-preserved : goal.loop-o-preserved
 loop-o-preserved c =
-    let l = c.loop-o in (omega arith, any_more l.o _ l.invariant.1 (sym c.wants.ensures ∙ c.if-wants.false))
+    let l = c.loop-o in any_more l.o _ l.invariant (sym c.wants.ensures ∙ c.if-wants.false)
 
 pub returns : goal.returns
 unfolding any_wants
 returns c =
     let l = c.loop-o in
-    let e : l.o ≡ 6 = omega arith in sym (rw e at l.invariant.1)
-
-pub loop-o-smaller : goal.loop-o-smaller
-loop-o-smaller c = omega arith
+    let e : l.o ≡ 6 = omega arith in sym (rw e at l.invariant)

@@ -1,4 +1,4 @@
-use Prim.Native.Nat.{ℕ, ◌-◌, ◌≤◌}
+use Prim.Native.Nat.{ℕ}
 use mathlib.Core.Bool.{Bool, false}
 use mathlib.Core.List.{List}
 use mathlib.Core.Path.{◌≡◌}
@@ -12,7 +12,4 @@ abbrev pub wants_at : List ℕ → List ℕ → ℕ → ℕ → Bool
 wants_at ended selections k o = wants (get_or ended o 0) (get_or selections (selection_number o k) 0)
 
 abbrev pub invariant-loop-o : goal.invariant-loop-o
-invariant-loop-o l = (l.o ≤ 6) × (any l.o (wants_at l.ended l.selections l.k) ≡ false)
-
-abbrev pub decreases-loop-o : goal.decreases-loop-o
-decreases-loop-o l = 6 - l.o
+invariant-loop-o l = any l.o (wants_at l.ended l.selections l.k) ≡ false

@@ -10,42 +10,35 @@ use Rattle.interlocks.proofs.scan.ended_by.Goals.{then-any_wants, then-k-lt16, e
 
 pub loop-k-init : goal.loop-k-init
 loop-k-init c =
-    let a = c.args in (
-      omega arith,
-      sym (tabulate_fill output_count 0) ∙ ended_none a.rest.selections (signals_by a.counters a.errors a.rest),
-    )
+    let a = c.args in
+    sym (tabulate_fill output_count 0) ∙ ended_none a.rest.selections (signals_by a.counters a.errors a.rest)
 
 pub loop-k-preserved : goal.loop-k-preserved
 loop-k-preserved c =
     let l = c.loop-k in
     let a = c.args in
     let words = a.rest.selections in
-    let signals = signals_by a.counters a.errors a.rest in (
-      omega arith,
-      elim c.if-any_wants.branch [
-        | then-any_wants w ↦
-            let present : w.if-k-lt16.present ≡ signals l.k =
-            elim w.if-k-lt16.branch [
-              | then-k-lt16 v ↦ v.present-is ∙ v.overflow_word-present.ensures ∙ overflow_by a.counters a.errors a.rest l.k v.if-k-lt16.true
-              | else-k-lt16 v ↦ v.present-is ∙ v.other_signals-present.ensures ∙ other_by a.counters a.errors a.rest l.k v.if-k-lt16.false
-            ] in
-            w.ended-is
-            ∙ w.after_words-next.ensures
-            ∙ (λ i. after_words words (present i) l.k (l.invariant.1 i))
-            ∙ ended_more words signals l.k
-        | else-any_wants w ↦
-            w.ended-is
-            ∙ l.invariant.1
-            ∙ ended_unwanted words signals l.k (rw l.invariant.1 at (sym c.any_wants.ensures ∙ w.if-any_wants.false))
-      ],
-    )
+    let signals = signals_by a.counters a.errors a.rest in
+    elim c.if-any_wants.branch [
+      | then-any_wants w ↦
+          let present : w.if-k-lt16.present ≡ signals l.k =
+          elim w.if-k-lt16.branch [
+            | then-k-lt16 v ↦ v.present-is ∙ v.overflow_word-present.ensures ∙ overflow_by a.counters a.errors a.rest l.k v.if-k-lt16.true
+            | else-k-lt16 v ↦ v.present-is ∙ v.other_signals-present.ensures ∙ other_by a.counters a.errors a.rest l.k v.if-k-lt16.false
+          ] in
+          w.ended-is
+          ∙ w.after_words-next.ensures
+          ∙ (λ i. after_words words (present i) l.k (l.invariant i))
+          ∙ ended_more words signals l.k
+      | else-any_wants w ↦
+          w.ended-is
+          ∙ l.invariant
+          ∙ ended_unwanted words signals l.k (rw l.invariant at (sym c.any_wants.ensures ∙ w.if-any_wants.false))
+    ]
 
 pub returns : goal.returns
 returns c =
     let l = c.loop-k in
     let a = c.args in
     let e : l.k ≡ 22 = omega arith in
-    (rw e at l.invariant.1) ∙ ended_all a.rest.selections (signals_by a.counters a.errors a.rest)
-
-pub loop-k-smaller : goal.loop-k-smaller
-loop-k-smaller c = omega arith
+    (rw e at l.invariant) ∙ ended_all a.rest.selections (signals_by a.counters a.errors a.rest)

@@ -1,34 +1,29 @@
--- `scan_outputs` meets its contract: the loop tells one output a turn (`Swept`), by what `ended_by` gives of it (`ended_level`, `ended_words`).
+-- `scan_outputs` meets its contract: level and words read of each output, by what `ended_by` gives of it (`ended_level`, `ended_words`).
 use Prim.Native.Nat.{ℕ, ◌<◌}
-use native.Mathlib.Omega.{arith}
 use mathlib.Core.List.{List}
-use mathlib.Core.Path.{◌≡◌, ap, sym, ◌∙◌}
+use mathlib.Core.Path.{◌≡◌, ap, ◌∙◌}
 use borrow.Author.Rules.{rules}
 use lib.ListN.{get_or}
+use lib.Dec.{eqb}
+use Rattle.bools.specs.Pick.{pick}
 use Rattle.words.specs.Word.{bit_of}
 use Rattle.lists.specs.Table.{tabulate}
-use Rattle.lists.proofs.Sweep.{swept_all, swept_more, swept_none}
-use Rattle.lists.proofs.Tables.{get_d_tabulate, length_tabulate, tabulate_ext}
+use Rattle.lists.proofs.Made.{from_fn_is}
+use Rattle.lists.proofs.Tables.{get_d_tabulate, tabulate_ext}
+use Rattle.device.specs.Map.{output_words}
 use Rattle.device.specs.declared.answer.Answer.TheVariants.{Done}
 use Rattle.device.specs.declared.state.Crate.{Crate}
+use Rattle.gates.specs.Gate.{failed}
 use Rattle.interlocks.specs.Interlock.{interlock}
 use Rattle.interlocks.specs.Scan.{words_read}
 use Rattle.interlocks.proofs.Scanning.{ended_is, ended_level, ended_words, ended_at}
-use Rattle.interlocks.proofs.scan.scan_outputs.Invariants.{level_in, words_in}
 use Rattle.interlocks.proofs.scan.scan_outputs.Goals as goal
 
-pub loop-o-init : goal.loop-o-init
-loop-o-init c = (search rules, search rules, swept_none _ _ (length_tabulate 6 _), swept_none _ _ (length_tabulate 6 _))
+abbrev level_in : List ℕ → ℕ → ℕ
+level_in ended o = bit_of (eqb (get_or ended o 0) 0)
 
-pub loop-o-preserved : goal.loop-o-preserved
-loop-o-preserved c =
-    let l = c.loop-o in
-    let h : l.o < 6 = omega arith in (
-      l.invariant.0,
-      l.invariant.1,
-      swept_more 0 l.invariant.2 (omega arith) (c.level.ensures ∙ sym (get_d_tabulate 6 _ l.o 0 h)),
-      swept_more 0 l.invariant.3 (omega arith) (c.words_read.ensures ∙ sym (get_d_tabulate 6 _ l.o 0 h)),
-    )
+abbrev words_in : List ℕ → ℕ → ℕ
+words_in ended o = pick (eqb (get_or ended o 0) 0) output_words (get_or ended o 0)
 
 module _ (s : Crate) (ended : List ℕ) (e : ended ≡ tabulate 6 (ended_at s)) where
   told : (o : ℕ) → o < 6 → get_or ended o 0 ≡ ended_at s o
@@ -42,9 +37,8 @@ module _ (s : Crate) (ended : List ℕ) (e : ended ≡ tabulate 6 (ended_at s)) 
 
 pub returns : goal.returns
 returns c =
-    let h = c.loop-o.invariant in
     let s = c.args.s in
-    let ended = c.ended_by-ended.ensures ∙ ended_is s _ c.gate_bits-errors.ensures in
-    let levels = swept_all h.2 (omega arith) ∙ levels_told s _ ended in
-    let words = swept_all h.3 (omega arith) ∙ words_told s _ ended in
+    let ended = c.ended_by-ended.ensures ∙ ended_is s _ (c.gate_bits-errors.ensures failed (λ g b p. search (rules, p))) in
+    let levels = from_fn_is _ _ (level_in c.ended_by-ended.result) _ 6 (λ o y q h m. search rules) c.from_fn.ensures.items ∙ levels_told s _ ended in
+    let words = from_fn_is _ _ (words_in c.ended_by-ended.result) _ 6 (λ o y q h m. search rules) c.from_fn-2.ensures.items ∙ words_told s _ ended in
     λ i. record { answer = Done; levels = levels i; words = words i }

@@ -6,7 +6,7 @@ pub returns-then-k-lt17 : goal.returns-then-k-lt17
 returns-then-k-lt17 c = search tests
 
 pub returns-then-k-lt21 : goal.returns-then-k-lt21
-returns-then-k-lt21 c = rw c.watchdog_word.ensures (search tests)
+returns-then-k-lt21 c = rw c.error_word.ensures (search tests)
 
 pub returns : goal.returns
 returns c = rw c.low_gates.ensures (search tests)
