@@ -1,5 +1,5 @@
 // The word that a read of each register gives.
-ghost use Rattle.std.specs.Prelude.{◌≡◌, ◌/◌, ◌%◌, get_or};
+ghost use Rattle.std.specs.Prelude.{◌≡◌, true, false, ◌/◌, ◌%◌, get_or};
 ghost use Rattle.bools.specs.Pick.{pick};
 ghost use Rattle.counters.specs.Counter.{counter_at, is_out, overflow_word};
 ghost use Rattle.gates.specs.Gate.{gate_at, state_word};
@@ -10,7 +10,7 @@ ghost use Rattle.device.specs.State.{machine};
 
 use counters::Counter;
 use device::{Answer, Crate, Register, Setting, Status};
-use gates::{Gate, GateBit, GateState};
+use gates::{Gate, GateState};
 use watchdogs::Watchdog;
 
 // Element i, and 0 past the end.
@@ -109,12 +109,22 @@ fn overflows(counters: [Counter; 128], positive: bool, k: u16) -> u16
     0
 }
 
-// Register k of a watchdog block; past the block 0.
-fn watchdog_bits(watchdogs: [Watchdog; 54], error: bool, k: u16) -> u16
-    ensures { result ≡ watchdog_word (flag_of error) watchdogs k }
+// Register k of the error block; past the block 0.
+fn watchdog_errors(watchdogs: [Watchdog; 54], k: u16) -> u16
+    ensures { result ≡ watchdog_word (flag_of true) watchdogs k }
 {
     if k < 4 {
-        return watchdogs::watchdog_word(watchdogs, error, k as usize);
+        return watchdogs::error_word(watchdogs, k as usize);
+    }
+    0
+}
+
+// Register k of the reset block; past the block 0.
+fn watchdog_resets(watchdogs: [Watchdog; 54], k: u16) -> u16
+    ensures { result ≡ watchdog_word (flag_of false) watchdogs k }
+{
+    if k < 4 {
+        return watchdogs::reset_word(watchdogs, k as usize);
     }
     0
 }
@@ -174,6 +184,7 @@ fn raw_word(rawcounts: [u32; 54], k: u16) -> u16
 }
 
 // The word of a read-only register.
+#[tactic(auto, unfolding(crate::specs::Read::status_word, gates::specs::Gate::outputs_of))]
 fn status_word(s: Crate, r: Status) -> u16
     ensures { result ≡ status_word s r }
 {
@@ -189,11 +200,11 @@ fn status_word(s: Crate, r: Status) -> u16
         Status::Module(k) => module_word(k),
         Status::Negative(k) => overflows(counters, false, k),
         Status::Positive(k) => overflows(counters, true, k),
-        Status::GateErrors => gates::gate_bits(gates, GateBit::ErrorBit),
-        Status::WatchdogErrors(k) => watchdog_bits(watchdogs, true, k),
+        Status::GateErrors => gates::gate_bits(gates, Gate::failed),
+        Status::WatchdogErrors(k) => watchdog_errors(watchdogs, k),
         Status::GateInputs => rest.gatelevels,
-        Status::GateOutputs => gates::gate_bits(gates, GateBit::OutputBit),
-        Status::Outputs => interlocks::outputs(s, gates::gate_bits(gates, GateBit::ErrorBit)),
+        Status::GateOutputs => gates::gate_bits(gates, |g| g.output),
+        Status::Outputs => interlocks::outputs(s, gates::gate_bits(gates, Gate::failed)),
         Status::GateStates(k) => gate_states(gates, k),
         Status::TagLow => events.low,
         Status::TagHigh => events.high,
@@ -207,6 +218,7 @@ fn status_word(s: Crate, r: Status) -> u16
 }
 
 // The word of a setting.
+#[tactic(auto, unfolding(crate::specs::Read::setting_word))]
 fn setting_word(s: Crate, r: Setting) -> u16
     ensures { result ≡ setting_word s r }
 {
@@ -217,7 +229,7 @@ fn setting_word(s: Crate, r: Setting) -> u16
     match r {
         Setting::Mask(k) => at(&masks, k as usize),
         Setting::WatchdogTimeout => rest.timeout,
-        Setting::WatchdogReset(k) => watchdog_bits(watchdogs, false, k),
+        Setting::WatchdogReset(k) => watchdog_resets(watchdogs, k),
         Setting::Selection(j) => at(&selections, j as usize),
     }
 }
@@ -239,6 +251,7 @@ fn input_word(counters: [Counter; 128], n: u16) -> u16
 }
 
 // The word of a register.
+#[tactic(auto, unfolding(crate::specs::Read::word_in, loader::specs::Memory::word_at))]
 pub fn word_in(s: Crate, mem: &[u16], r: Register) -> u16
     ensures { result ≡ word_in (machine s mem.now) r }
 {
@@ -251,13 +264,13 @@ pub fn word_in(s: Crate, mem: &[u16], r: Register) -> u16
         Register::Readout(status) => status_word(s, status),
         Register::Other(setting) => setting_word(s, setting),
         Register::Control => common.control,
-        Register::Mode => gates::gate_bits(gates, GateBit::ModeBit),
+        Register::Mode => gates::gate_bits(gates, |g| g.mode),
         Register::Timeout(g) => timeout_word(gates, g),
         Register::Key => common.key,
         Register::Enable => common.enable,
         Register::Reload => common.reload,
-        Register::Prepare => gates::gate_bits(gates, GateBit::PrepareBit),
-        Register::Recover => gates::gate_bits(gates, GateBit::RecoverBit),
+        Register::Prepare => gates::gate_bits(gates, |g| g.prepare),
+        Register::Recover => gates::gate_bits(gates, |g| g.recover),
         Register::Input(n) => input_word(counters, n),
         Register::Group(k) => at(&groups, k as usize),
         Register::Word(i) => at(mem, i as usize),

@@ -1,0 +1,13 @@
+-- `watchdog_errors` meets its contract: past the block no flag is set (`pack_past`).
+use Prim.Native.Nat.{◌*◌}
+use native.Mathlib.Omega.{arith}
+use mathlib.Core.Bool.{true}
+use mathlib.Core.Path.{refl, sym}
+use Rattle.watchdogs.specs.Watchdog.{flag_of, watchdog0, watchdog_at, watchdog_word}
+use Rattle.reading.proofs.Past.{pack_past}
+use Rattle.reading.proofs.reading.watchdog_errors.Goals as goal
+
+pub returns : goal.returns
+unfolding watchdog_word watchdog_at
+returns c =
+    let a = c.args in sym (pack_past (flag_of true) watchdog0 a.watchdogs (16 * a.k) refl (omega arith))
