@@ -5,7 +5,8 @@ ghost use Rattle.counters.specs.Counter.{clear_counters};
 ghost use Rattle.tagging.specs.Tag.{command_of, key_of, code_of, events_on, right_key, noted, noted_in, tag_request, commanded, tag_of, tag_answer};
 
 use device::{Answer, Common, Crate, Events};
-use gates::GateChange;
+use gates::Gate;
+use loader::Request;
 
 // The code of a tag, its low 16 bits.
 fn code_of(t: u32) -> u16
@@ -69,19 +70,20 @@ fn note_in(mut s: Crate, t: u32) -> Crate
 }
 
 // Command 0x1: a request, or nothing where it is refused.
+#[tactic(auto, unfolding(crate::specs::Tag::tag_request, writing::specs::Write::request_answer, writing::specs::Write::requested))]
 fn request(cm: Common, t: u32) -> Common
     ensures { result ≡ tag_request t cm }
 {
     let queue = cm.queue;
     let code = code_of(t);
-    let dataset = words::cut(code, 0, 8);
-    if 31 < dataset {
+    let request = Request::of(code);
+    if 31 < request.dataset {
         return cm;
     }
     if 16 <= queue.waiting {
         return cm;
     }
-    writing::enqueue(cm, dataset, words::cut(code, 8, 4))
+    writing::enqueue(cm, request)
 }
 
 // The crate with a request made.
@@ -105,6 +107,7 @@ fn clear_in(mut s: Crate) -> Crate
 }
 
 // A tag's command runs.
+#[tactic(auto, unfolding(crate::specs::Tag::commanded))]
 fn command(s: Crate, t: u32) -> Crate
     ensures { result ≡ commanded s t }
 {
@@ -114,10 +117,10 @@ fn command(s: Crate, t: u32) -> Crate
         return request_in(s, t);
     }
     if number == 2 {
-        return writing::write_gates(s, GateChange::PulsePrepare, gates);
+        return writing::write_gates(s, gates, Gate::pulse_prepare);
     }
     if number == 3 {
-        return writing::write_gates(s, GateChange::PulseRecover, gates);
+        return writing::write_gates(s, gates, Gate::pulse_recover);
     }
     if number == 4 {
         return clear_in(s);
@@ -126,6 +129,7 @@ fn command(s: Crate, t: u32) -> Crate
 }
 
 // What a tag does.
+#[tactic(auto, unfolding(crate::specs::Tag::tag_of))]
 pub fn tag_crate(s: Crate, t: u32) -> Crate
     ensures { result ≡ tag_of s t }
 {
@@ -141,6 +145,7 @@ pub fn tag_crate(s: Crate, t: u32) -> Crate
 }
 
 // What a tag answers.
+#[tactic(auto, unfolding(crate::specs::Tag::tag_answer))]
 pub fn tag_answer(cm: Common, t: u32) -> Answer
     ensures { result ≡ tag_answer cm t }
 {
@@ -154,5 +159,5 @@ pub fn tag_answer(cm: Common, t: u32) -> Answer
     if command_of(t) != 1 {
         return Answer::Done;
     }
-    writing::request_answer(queue, words::cut(code_of(t), 0, 8))
+    writing::request_answer(queue, Request::of(code_of(t)).dataset)
 }

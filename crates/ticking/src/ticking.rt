@@ -3,10 +3,11 @@ ghost use Rattle.std.specs.Prelude.{◌≡◌, length};
 ghost use Rattle.ticking.specs.Tick.{common_tick, handled_by, rest_tick, tick_of};
 
 use device::{Common, Crate, Events, Rest};
-use gates::{GateBit, GateChange};
+use gates::Gate;
 use loader::Loader;
 
 // Phases, queue and loader.
+#[tactic(auto, unfolding(crate::specs::Tick::common_tick))]
 fn tick_common(mut cm: Common) -> Common
     ensures { result ≡ common_tick cm }
 {
@@ -33,6 +34,7 @@ fn note_handled(mut e: Events, loader: Loader) -> Events
 }
 
 // Watchdogs, the gate levels, the last counter handled; the raw counts are given as they are after the tick.
+#[tactic(auto, unfolding(crate::specs::Tick::rest_tick))]
 fn tick_rest(
     mut rest: Rest,
     rawcounts: [u32; 54],
@@ -54,6 +56,7 @@ fn tick_rest(
 }
 
 // One tick at levels of lines that exist.
+#[tactic(auto, unfolding(crate::specs::Tick::tick_of, gates::specs::Gate::outputs_of))]
 pub fn tick_crate(s: Crate, mem: &[u16], inputs: u64, gatelevels: u16) -> Crate
     requires { length mem.now ≡ 16384 }
     ensures { result ≡ tick_of s mem.now inputs gatelevels }
@@ -67,9 +70,9 @@ pub fn tick_crate(s: Crate, mem: &[u16], inputs: u64, gatelevels: u16) -> Crate
     let phases = old_common.phases;
     let loader = old_common.loader;
     let rises = lines::rises(s.levels, inputs, phases);
-    let gates = gates::change_gates(old_gates, GateChange::Tick, gatelevels);
-    let was = gates::gate_bits(old_gates, GateBit::OutputBit);
-    let is = gates::gate_bits(gates, GateBit::OutputBit);
+    let gates = gates::change_gates(old_gates, gatelevels, Gate::step);
+    let was = gates::gate_bits(old_gates, |g| g.output);
+    let is = gates::gate_bits(gates, |g| g.output);
     let counted = counters::tick_counters(old_counters, old_common.control, rises, was, is);
     let counters = loader::load_into(loader, groups, mem, counted);
     let common = tick_common(old_common);

@@ -1,8 +1,8 @@
 // What a write to each register answers and does.
-ghost use Rattle.std.specs.Prelude.{◌≡◌, ◌<◌, set};
+ghost use Rattle.std.specs.Prelude.{◌≡◌, Bool, ◌<◌, set};
 ghost use Rattle.counters.specs.Counter.{counter_at, with_input};
-ghost use Rattle.gates.specs.Gate.{change_of, each_gate, gate_at, with_timeout};
-ghost use Rattle.loader.specs.Loader.{pushed, request_for};
+ghost use Rattle.gates.specs.Gate.{each_gate, gate_at, with_timeout};
+ghost use Rattle.loader.specs.Loader.{pushed};
 ghost use Rattle.device.specs.declared.map.Register.TheVariants.{Group, Input, Other, Timeout};
 ghost use Rattle.device.specs.declared.map.Setting.TheVariants.{Selection};
 ghost use Rattle.device.specs.Map.{kept};
@@ -10,7 +10,7 @@ ghost use Rattle.device.specs.State.{machine, with_common, with_counters, with_g
 ghost use Rattle.writing.specs.Write.{request_answer, triggers, reload_answer, reload_write, control_write, key_write, enable_write, rest_write, write_answer, reset_by, write_at};
 
 use device::{Answer, Common, Crate, Register, Rest, Setting};
-use gates::GateChange;
+use gates::Gate;
 use loader::{Queue, Request};
 
 // Element i set, and nothing past the end.
@@ -23,6 +23,7 @@ fn store(xs: &mut [u16], i: usize, word: u16)
 }
 
 // A request: dataset above 31, then 16 waiting.
+#[tactic(auto, using(bools::proofs::Tests::tests), unfolding(crate::specs::Write::request_answer))]
 pub fn request_answer(queue: Queue, dataset: u16) -> Answer
     ensures { result ≡ request_answer queue dataset }
 {
@@ -36,12 +37,11 @@ pub fn request_answer(queue: Queue, dataset: u16) -> Answer
 }
 
 // A request enters the queue.
-pub fn enqueue(mut cm: Common, dataset: u16, group: u16) -> Common
+pub fn enqueue(mut cm: Common, request: Request) -> Common
     requires { cm.queue.waiting < 16 }
-    ensures { result ≡ with_queue cm (pushed cm.queue (request_for dataset group)) }
+    ensures { result ≡ with_queue cm (pushed cm.queue request) }
 {
     let old_queue = cm.queue;
-    let request = Request { dataset, group };
     let queue = old_queue.push(request);
     cm.queue = queue;
     cm
@@ -58,38 +58,41 @@ fn triggered(word: u16, cm: Common) -> bool
 }
 
 // What a write to 0x0A02 answers.
+#[tactic(auto, unfolding(crate::specs::Write::reload_answer))]
 fn reload_answer(word: u16, cm: Common) -> Answer
     ensures { result ≡ reload_answer word cm }
 {
     let queue = cm.queue;
     if triggered(word, cm) {
-        return request_answer(queue, words::cut(word, 0, 8));
+        return request_answer(queue, Request::of(word).dataset);
     }
     Answer::Done
 }
 
 // A write to 0x0A02: a refused request stores nothing.
+#[tactic(auto, unfolding(crate::specs::Write::reload_write, crate::specs::Write::reload_answer, crate::specs::Write::request_answer, crate::specs::Write::requested, device::specs::Map::kept))]
 fn write_reload(word: u16, mut cm: Common) -> Common
     ensures { result ≡ reload_write word cm }
 {
     let queue = cm.queue;
-    let dataset = words::cut(word, 0, 8);
+    let request = Request::of(word);
     if !triggered(word, cm) {
         cm.reload = word % 8192;
         return cm;
     }
-    if 31 < dataset {
+    if 31 < request.dataset {
         return cm;
     }
     if 16 <= queue.waiting {
         return cm;
     }
-    let mut next = enqueue(cm, dataset, words::cut(word, 8, 4));
+    let mut next = enqueue(cm, request);
     next.reload = word % 8192;
     next
 }
 
 // The used bits of an output's selection word.
+#[tactic(auto, using(bools::proofs::Tests::tests), unfolding(device::specs::Map::kept))]
 fn keep_selection(j: u16, word: u16) -> u16
     ensures { result ≡ kept (Other (Selection j)) word }
 {
@@ -107,6 +110,7 @@ fn keep_selection(j: u16, word: u16) -> u16
 }
 
 // A write to a setting.
+#[tactic(auto, unfolding(crate::specs::Write::rest_write, device::specs::Map::kept))]
 fn write_setting(mut rest: Rest, r: Setting, word: u16) -> Rest
     ensures { result ≡ rest_write r word rest }
 {
@@ -137,6 +141,7 @@ fn write_setting(mut rest: Rest, r: Setting, word: u16) -> Rest
 }
 
 // A write to 0x0801: RESET clears all counts.
+#[tactic(auto, unfolding(crate::specs::Write::reset_by, crate::specs::Write::control_write, device::specs::Map::kept))]
 fn write_control(mut s: Crate, word: u16) -> Crate
     ensures { result ≡ with_common (with_counters s (reset_by word s.counters)) (control_write word s.common) }
 {
@@ -153,16 +158,18 @@ fn write_control(mut s: Crate, word: u16) -> Crate
 }
 
 // A write to the bits of all gates.
-pub fn write_gates(mut s: Crate, how: GateChange, word: u16) -> Crate
-    ensures { result ≡ with_gates s (each_gate (change_of how) word s.gates) }
+pub fn write_gates<F: Fn(Gate, bool) -> Gate>(mut s: Crate, word: u16, change: F) -> Crate
+    requires { F.IsAlwaysCallable change }
+    ensures { (f : Bool → Gate → Gate) → ((g : Gate) (b : Bool) (next : Gate) → F.post change g b next → next ≡ f b g) → result ≡ with_gates s (each_gate f word s.gates) }
 {
     let old = s.gates;
-    let gates = gates::change_gates(old, how, word);
+    let gates = gates::change_gates(old, word, change);
     s.gates = gates;
     s
 }
 
 // A write to a gate's timeout.
+#[tactic(auto, unfolding(device::specs::Map::kept, gates::specs::Gate::gate_at))]
 fn write_timeout(mut s: Crate, g: u16, word: u16) -> Crate
     ensures { result ≡ with_gates s (set s.gates g (with_timeout (kept (Timeout g) word) (gate_at s.gates g))) }
 {
@@ -177,6 +184,7 @@ fn write_timeout(mut s: Crate, g: u16, word: u16) -> Crate
 }
 
 // A write to a counter's input register.
+#[tactic(auto, unfolding(device::specs::Map::kept, counters::specs::Counter::counter_at))]
 fn write_input(mut s: Crate, n: u16, word: u16) -> Crate
     ensures { result ≡ with_counters s (set s.counters n (with_input (counter_at s.counters n) (kept (Input n) word))) }
 {
@@ -191,6 +199,7 @@ fn write_input(mut s: Crate, n: u16, word: u16) -> Crate
 }
 
 // A write to a group register.
+#[tactic(auto, unfolding(device::specs::Map::kept))]
 fn write_group(mut s: Crate, k: u16, word: u16) -> Crate
     ensures { result ≡ with_groups s (set s.groups k (kept (Group k) word)) }
 {
@@ -201,6 +210,7 @@ fn write_group(mut s: Crate, k: u16, word: u16) -> Crate
 }
 
 // A write to the event key.
+#[tactic(auto, unfolding(crate::specs::Write::key_write, device::specs::Map::kept))]
 fn write_key(mut s: Crate, word: u16) -> Crate
     ensures { result ≡ with_common s (key_write word s.common) }
 {
@@ -211,6 +221,7 @@ fn write_key(mut s: Crate, word: u16) -> Crate
 }
 
 // A write to the event control register.
+#[tactic(auto, unfolding(crate::specs::Write::enable_write, device::specs::Map::kept))]
 fn write_enable(mut s: Crate, word: u16) -> Crate
     ensures { result ≡ with_common s (enable_write word s.common) }
 {
@@ -241,6 +252,7 @@ fn write_other(mut s: Crate, r: Setting, word: u16) -> Crate
 }
 
 // What a write answers.
+#[tactic(auto, unfolding(crate::specs::Write::write_answer))]
 pub fn write_answer(cm: Common, r: Register, word: u16) -> Answer
     ensures { result ≡ write_answer cm r word }
 {
@@ -263,6 +275,7 @@ pub fn write_answer(cm: Common, r: Register, word: u16) -> Answer
 }
 
 // What a write does to the crate and the memory; a refused one leaves both.
+#[tactic(auto, unfolding(crate::specs::Write::write_at, device::specs::Map::kept))]
 pub fn write_at(s: Crate, mem: &mut [u16], r: Register, word: u16) -> Crate
     ensures { machine result mem.new ≡ write_at (machine s mem.old) r word }
 {
@@ -271,13 +284,13 @@ pub fn write_at(s: Crate, mem: &mut [u16], r: Register, word: u16) -> Crate
         Register::Readout(_) => s,
         Register::Other(setting) => write_other(s, setting, word),
         Register::Control => write_control(s, word),
-        Register::Mode => write_gates(s, GateChange::SetMode, word),
+        Register::Mode => write_gates(s, word, Gate::with_mode),
         Register::Timeout(g) => write_timeout(s, g, word),
         Register::Key => write_key(s, word),
         Register::Enable => write_enable(s, word),
         Register::Reload => write_request(s, word),
-        Register::Prepare => write_gates(s, GateChange::SetPrepare, word),
-        Register::Recover => write_gates(s, GateChange::SetRecover, word),
+        Register::Prepare => write_gates(s, word, Gate::with_prepare),
+        Register::Recover => write_gates(s, word, Gate::with_recover),
         Register::Input(n) => write_input(s, n, word),
         Register::Group(k) => write_group(s, k, word),
         Register::Word(i) => {
