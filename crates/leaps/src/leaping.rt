@@ -4,7 +4,6 @@ ghost use Rattle.leaps.specs.Leap.{Formed, leap_common, leap_of, leap_rest, stre
 ghost use Rattle.leaps.specs.Leap.{quiet as leap_quiet};
 
 use device::{Common, Crate, Rest};
-use gates::GateBit;
 
 // The phases move; queue and loader stay.
 fn leap_common(mut cm: Common, k: u32) -> Common
@@ -38,7 +37,7 @@ pub fn leap(s: Crate, k: u32, gatelevels: u16) -> Crate
     let old_rest = s.rest;
     let old_phases = old_common.phases;
     let rises = lines::rises_in(old_phases, k);
-    let is = gates::gate_bits(old_gates, GateBit::OutputBit);
+    let is = gates::gate_bits(old_gates, |g| g.output);
     let counters = counters::leap_counters(old_counters, old_common.control, rises, is);
     let gates = gate_leaps::leap_gates(old_gates, k);
     let common = leap_common(old_common, k);

@@ -15,6 +15,7 @@ fn phase_total(k: u32, j: usize, phase: u32) -> u64
 }
 
 // A phase k ticks on.
+#[tactic(auto, unfolding(crate::specs::Leap::phase_after))]
 fn phase_after(k: u32, j: usize, phase: u32) -> u32
     requires { j < 9 }
     ensures { result ≡ phase_after k j phase }
@@ -30,6 +31,7 @@ pub fn leap_phases(phases: [u32; 9], k: u32) -> [u32; 9]
 }
 
 // The rises of selection value u in k ticks.
+#[tactic(auto, unfolding(crate::specs::Leap::rises_in))]
 fn rises_at(phases: [u32; 9], k: u32, u: usize) -> u32
     requires { u < 64 }
     ensures { result ≡ rises_in k phases u }

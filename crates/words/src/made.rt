@@ -17,6 +17,7 @@ pub fn from_fields<F: Fn(usize) -> u16>(n: usize, width: u32, part: F) -> u16
 }
 
 // The word of n tests, the first in bit 0.
+#[tactic(auto, unfolding(crate::specs::Word::pack))]
 pub fn from_bits<F: Fn(usize) -> bool>(n: usize, test: F) -> u16
     requires room { n ≤ 16 }
     requires callable { (i : ℕ) → i < n → F.pre test i }
