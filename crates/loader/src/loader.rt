@@ -142,6 +142,7 @@ pub fn queue_step(loader: Loader, queue: Queue) -> Queue
 }
 
 // The group of counter n: four bits of register n / 4.
+#[tactic(auto, unfolding(crate::specs::Loader::group_at))]
 pub fn group_at(groups: [u16; 32], n: usize) -> u16
     requires { n < 128 }
     ensures { result ≡ group_at groups n }
@@ -150,6 +151,7 @@ pub fn group_at(groups: [u16; 32], n: usize) -> u16
 }
 
 // The counters after the loader's tick: the one handled takes its four words if it is of the request's group.
+#[tactic(auto, unfolding(crate::specs::Loader::load_into, counters::specs::Counter::counter_at))]
 pub fn load_into(
     loader: Loader,
     groups: [u16; 32],

@@ -6,6 +6,7 @@ ghost use Rattle.loader.specs.Memory.{place_of, loaded, replaced};
 use counters::Counter;
 
 // A counter with the thresholds of counter n in a dataset's part.
+#[tactic(auto, unfolding(crate::specs::Memory::loaded, crate::specs::Memory::word_at))]
 fn load_from(part: &[u16], n: usize, c: Counter) -> Counter
     requires { (length part.now ≡ 512) × (n < 128) }
     ensures { result ≡ loaded part.now (4 * n) c }
@@ -30,6 +31,7 @@ pub fn load(mem: &[u16], dataset: usize, n: usize, c: Counter) -> Counter
 }
 
 // 512 words over one dataset; every other word stays.
+#[tactic(auto, unfolding(crate::specs::Memory::replaced))]
 pub fn download(mem: &mut [u16], dataset: usize, words: &[u16])
     requires { (length mem.old ≡ 16384) × (length words.now ≡ 512) × (dataset < 32) }
     ensures { mem.new ≡ replaced mem.old (512 * dataset) words.now }
