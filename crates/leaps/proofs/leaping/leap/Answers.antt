@@ -2,7 +2,8 @@
 use mathlib.Core.Path.{ap}
 use mathlib.Core.List.{List}
 use Rattle.counters.specs.declared.counter.Counter.{Counter}
-use Rattle.gates.specs.Gate.{outputs_of}
+use borrow.Author.Rules.{rules}
+use Rattle.gates.specs.Gate.{output, outputs_of}
 use Rattle.device.specs.State.{crate_of}
 use Rattle.counters.proofs.Leaps.{table_rises}
 use Rattle.gate_leaps.specs.Leap.{leap_gates}
@@ -20,7 +21,7 @@ returns c =
         c.leap_common-common.ensures,
         c.leap_gates-gates.ensures,
         c.leap_counters-counters.ensures.0,
-        c.gate_bits-is.ensures,
+        c.gate_bits-is.ensures output (λ g b p. search (rules, p)),
         c.rises_in-rises.ensures,
       )
           (ap (λ (x : List Counter). crate_of x s.groups (leap_gates a.k s.gates) s.levels (leap_common a.k s.common) (leap_rest a.k a.gatelevels s.rest))
