@@ -54,6 +54,7 @@ pub enum Setting {
 }
 
 // Addresses up to 0x06FF.
+#[tactic(auto, using(bools::proofs::Tests::tests), unfolding(crate::specs::Map::backplane_map))]
 fn backplane_map(a: u16) -> Register
     ensures { result ≡ backplane_map a }
 {
@@ -73,6 +74,7 @@ fn backplane_map(a: u16) -> Register
 }
 
 // 0x0700 to 0x07FF.
+#[tactic(auto, using(bools::proofs::Tests::tests), unfolding(crate::specs::Map::status_map))]
 fn status_map(a: u16) -> Register
     requires { 0x0700 ≤ a }
     ensures { result ≡ status_map a }
@@ -108,6 +110,7 @@ fn status_map(a: u16) -> Register
 }
 
 // 0x0800 to 0x08FF.
+#[tactic(auto, using(bools::proofs::Tests::tests), unfolding(crate::specs::Map::control_map))]
 fn control_map(a: u16) -> Register
     ensures { result ≡ control_map a }
 {
@@ -133,6 +136,7 @@ fn control_map(a: u16) -> Register
 }
 
 // 0x0900 to 0x0FFF.
+#[tactic(auto, using(bools::proofs::Tests::tests), unfolding(crate::specs::Map::event_map))]
 fn event_map(a: u16) -> Register
     ensures { result ≡ event_map a }
 {
@@ -173,6 +177,7 @@ fn event_map(a: u16) -> Register
 }
 
 // An output's block, k addresses from 0x1100.
+#[tactic(auto, using(bools::proofs::Tests::tests))]
 fn output_block(k: u16) -> Register
     ensures { result ≡ output_block k }
 {
@@ -183,6 +188,7 @@ fn output_block(k: u16) -> Register
 }
 
 // 0x1000 on.
+#[tactic(auto, using(bools::proofs::Tests::tests), unfolding(crate::specs::Map::counter_map))]
 fn counter_map(a: u16) -> Register
     requires { 0x1000 ≤ a }
     ensures { result ≡ counter_map a }
@@ -227,6 +233,7 @@ fn counter_map(a: u16) -> Register
 }
 
 // What stands at an address.
+#[tactic(auto, using(bools::proofs::Tests::tests), unfolding(crate::specs::Map::decode_of))]
 pub fn decode(a: u16) -> Register
     ensures { result ≡ decode_of a }
 {

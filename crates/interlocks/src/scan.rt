@@ -106,6 +106,7 @@ pub fn outputs(s: Crate, errors: u16) -> u16
 }
 
 // The level of an output, by where its scan ended.
+#[tactic(auto, using(bools::proofs::Tests::tests))]
 fn level(ended: u16) -> u16
     ensures { result ≡ bit_of (eqb ended 0) }
 {
@@ -113,6 +114,7 @@ fn level(ended: u16) -> u16
 }
 
 // How many of its words were read.
+#[tactic(auto, using(bools::proofs::Tests::tests))]
 fn words_read(ended: u16) -> u16
     ensures { result ≡ pick (eqb ended 0) output_words ended }
 {

@@ -12,6 +12,7 @@ fn low_gates(rest: Rest) -> u16
 }
 
 // The signals that selection word k of an output chooses from, past the overflows.
+#[tactic(auto, using(bools::proofs::Tests::tests))]
 pub fn other_signals(errors: u16, rest: Rest, k: usize) -> u16
     ensures { result ≡ other_signals errors rest k }
 {
