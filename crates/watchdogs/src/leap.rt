@@ -5,7 +5,7 @@ ghost use Rattle.watchdogs.specs.Leap.{leap_watchdogs, value_after, watchdog_aft
 use crate::watchdog::{TOP, Watchdog};
 use std::array;
 
-// The ticks since the last rise after k more.
+// The ticks since the last rise after k more, at most TOP.
 fn value_after(k: u32, value: u32) -> u32
     ensures { result ≡ value_after k value }
 {

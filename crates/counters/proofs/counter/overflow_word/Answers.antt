@@ -10,4 +10,6 @@ pub returns : goal.returns
 unfolding overflow_word counter_at
 returns c =
     let a = c.args in
-    c.from_bits.ensures _ (λ i b h p. rw (counter_read a.counters (16 * a.k + i) (search rules) (omega arith)) (search rules))
+    c.from_bits.ensures _
+    (λ i b h p.
+    let read = counter_read a.counters (16 * a.k + i) (search rules) (omega arith) in search rules)

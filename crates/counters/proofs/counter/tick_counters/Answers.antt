@@ -8,4 +8,8 @@ use Rattle.counters.proofs.counter.tick_counters.Goals as goal
 
 pub returns : goal.returns
 unfolding tick_counters each
-returns c = from_fn_is _ _ _ _ 128 (λ i y q h m. rw (counter_read c.args.counters i (search rules) h) (search rules)) c.from_fn.ensures.items
+returns c =
+    from_fn_is _ _ _ _ 128
+    (λ i y q h m.
+    let read = counter_read c.args.counters i (search rules) h in search rules)
+    c.from_fn.ensures.items

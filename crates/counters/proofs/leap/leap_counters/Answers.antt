@@ -1,5 +1,5 @@
 -- `leap_counters` meets its contract: each counter leaps (`from_fn_is`), and each was in range (`calls_say`).
-use Prim.Native.Nat.{ℕ, ◌^◌, ◌<◌}
+use Prim.Native.Nat.{◌^◌, ◌<◌}
 use borrow.Author.Rules.{rules}
 use lib.ListN.{get_or}
 use lib.Signed.{mag}
