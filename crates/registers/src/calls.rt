@@ -102,6 +102,7 @@ fn new_crate() -> Crate
 }
 
 // Power-up: a new crate, and a memory of zeros.
+#[tactic(auto, unfolding(crate::specs::Calls::powered, crate::specs::Calls::powered_memory, device::specs::State::memory0))]
 pub fn power_up(mem: &mut [u16]) -> Outcome
     ensures { (result ≡ powered mem.old) × (mem.new ≡ powered_memory mem.old) }
 {
@@ -120,6 +121,7 @@ pub fn power_up(mem: &mut [u16]) -> Outcome
 }
 
 // A read: the word at an address, 0 where it is refused.
+#[tactic(auto, unfolding(reading::specs::Read::read_of))]
 pub fn read(state: Crate, mem: &[u16], address: u16) -> Read
     ensures { (result ≡ read_of (machine state mem.now) address) × (mem.now ≡ mem.now) }
 {
@@ -150,6 +152,7 @@ pub fn scan(state: Crate, mem: &[u16]) -> Scan
 }
 
 // A write of a word to an address.
+#[tactic(auto, unfolding(crate::specs::Calls::answer, crate::specs::Calls::step, crate::specs::Calls::call_answer, crate::specs::Calls::called))]
 pub fn write(state: Crate, mem: &mut [u16], address: u16, word: u16) -> Outcome
     ensures { (result ≡ outcome_of (machine state mem.old) (call_write address word)) × (mem.new ≡ (step (machine state mem.old) (call_write address word)).memory) }
 {
@@ -170,6 +173,7 @@ pub fn write(state: Crate, mem: &mut [u16], address: u16, word: u16) -> Outcome
 }
 
 // An event tag.
+#[tactic(auto, unfolding(crate::specs::Calls::answer, crate::specs::Calls::step, crate::specs::Calls::call_answer, crate::specs::Calls::called))]
 pub fn tag(state: Crate, mem: &[u16], t: u32) -> Outcome
     ensures { (result ≡ outcome_of (machine state mem.now) (call_tag t)) × (mem.now ≡ (step (machine state mem.now) (call_tag t)).memory) }
 {
@@ -189,6 +193,7 @@ pub fn tag(state: Crate, mem: &[u16], t: u32) -> Outcome
 }
 
 // A tick at these levels of inputs and gates.
+#[tactic(auto, unfolding(crate::specs::Calls::answer, crate::specs::Calls::step, crate::specs::Calls::call_answer, crate::specs::Calls::called))]
 pub fn tick(state: Crate, mem: &[u16], inputs: u64, gates: u16) -> Outcome
     ensures { (result ≡ outcome_of (machine state mem.now) (call_tick inputs gates)) × (mem.now ≡ (step (machine state mem.now) (call_tick inputs gates)).memory) }
 {
@@ -212,6 +217,7 @@ pub fn tick(state: Crate, mem: &[u16], inputs: u64, gates: u16) -> Outcome
 }
 
 // A download of 512 words to a dataset; the crate stays.
+#[tactic(auto, unfolding(crate::specs::Calls::answer, crate::specs::Calls::step, crate::specs::Calls::call_answer, crate::specs::Calls::called, crate::specs::Calls::download_answer))]
 pub fn download(state: Crate, mem: &mut [u16], dataset: u16, words: &[u16]) -> Outcome
     ensures { (result ≡ outcome_of (machine state mem.old) (call_download dataset words.now)) × (mem.new ≡ (step (machine state mem.old) (call_download dataset words.now)).memory) }
 {
