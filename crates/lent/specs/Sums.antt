@@ -1,9 +1,10 @@
 -- Sliding sums of document 02, CR 4, for programs in C and Rust: the state in three lent words, the sum in one.
-use Rattle.std.specs.Prelude.{ℕ, ◌&&◌, List, [], ◌∷◌, eqb, ℤ, get_or, length}
+use Rattle.std.specs.Prelude.{ℕ, ◌&&◌, List, [], ◌∷◌, eqb, ℤ, pos, get_or, length}
+use Rattle.std.specs.Result.{result_unwrap_or}
 use Rattle.bools.specs.Pick.{pick}
 use Rattle.numbers.specs.Signed.{signed, word_of}
 use Rattle.sums.specs.declared.Sliding.{Sliding}
-use Rattle.sums.specs.Sums.{SampleOutcome, StartOutcome, sample_of, sliding, start_of}
+use Rattle.sums.specs.Sums.{SampleOutcome, StartOutcome, number_of, sample_of, sliding, start_of, state_left}
 use Rattle.lent.specs.Lent.{bad_buffer}
 
 -- window, place, and the sum as a word of 64 bits in two's complement
@@ -26,7 +27,7 @@ abbrev pub lent_start : ℕ → List ℕ → List ℤ → LentStart
 lent_start status state ring = record { status = status; state = state; ring = ring }
 
 abbrev pub lent_start_by : StartOutcome → LentStart
-lent_start_by x = lent_start x.number (words_of x.state) x.ring
+lent_start_by x = lent_start (number_of x.answer) (words_of (state_left x.answer)) x.ring
 
 -- nothing is done where the state has the wrong length
 unfoldable pub sum_start_of : List ℕ → List ℤ → ℕ → LentStart
@@ -46,7 +47,7 @@ abbrev pub lent_sample : ℕ → List ℕ → List ℤ → List ℤ → LentSamp
 lent_sample status state ring sum = record { status = status; state = state; ring = ring; sum = sum }
 
 abbrev pub lent_sample_by : SampleOutcome → LentSample
-lent_sample_by x = lent_sample x.number (words_of x.state) x.ring (x.sum ∷ [])
+lent_sample_by x = lent_sample (number_of x.answer) (words_of x.state) x.ring (result_unwrap_or x.answer (pos 0) ∷ [])
 
 -- nothing is done where the state or the sum has the wrong length
 unfoldable pub sum_sample_of : List ℕ → List ℤ → ℤ → List ℤ → LentSample

@@ -1,4 +1,3 @@
-pub mod Clearing
 pub mod Ready
 pub mod Runs
 pub mod Theorems

@@ -1,5 +1,5 @@
 -- Laws of numbers added up, and of the last ones of a list.
-use Rattle.std.proofs.Common.{◌≡◌, ℕ, zero, suc, ◌+◌, ◌-◌, ◌*◌, ◌<◌, ◌≤◌, ltb, leb, List, [], ◌∷◌, ◌++◌, length, drop, replicate, ℤ, pos, negsuc, ◌+ℤ◌, sym, refl, ap, ◌∙◌, append_assoc, append-nil, arith, length-append, length-drop, drop-drop, leb-false, leb-true}
+use Rattle.std.proofs.Common.{◌≡◌, ℕ, zero, suc, ◌+◌, ◌-◌, ◌*◌, ◌<◌, ◌≤◌, leb, List, [], ◌∷◌, ◌++◌, length, drop, replicate, ℤ, pos, ◌+ℤ◌, sym, refl, ap, ◌∙◌, append_assoc, append-nil, arith, length-append, length-drop, drop-drop, leb-false, leb-true}
 use lib.IntN.{+ℤ_assoc, +ℤ_idl}
 use lib.ListN.{length-replicate}
 use lib.Seq.{drop-append-add, drop-append-le}
@@ -15,17 +15,8 @@ total_append (x ∷ xs) ys = ap (λ (z : ℤ). x +ℤ z) (total_append xs ys) �
 
 -- ---- how large a sum of 32-bit samples is
 
-mag_sub : (m n : ℕ) → mag (pos m +ℤ negsuc n) ≤ m + n + 1
-mag_sub m n =
-    cases (ltb m (suc n))
-    (λ e. rw e (omega arith))
-    (λ e. rw e (omega arith))
-
 mag_add : (a b : ℤ) → mag (a +ℤ b) ≤ mag a + mag b + 1
-mag_add (pos m) (pos n) = omega arith
-mag_add (pos m) (negsuc n) = mag_sub m n
-mag_add (negsuc m) (pos n) = omega (arith, mag_sub n m)
-mag_add (negsuc m) (negsuc n) = omega arith
+mag_add a b = grind arith
 
 pub total_mag : (xs : List ℤ) → Samples xs → mag (total xs) ≤ length xs * 2147483648
 unfolding total

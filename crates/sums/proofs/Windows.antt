@@ -1,6 +1,6 @@
 -- What state and ring are after samples since one start: the ring's first W words are the last W samples, the newer ones below the place and the
 -- older ones from it on, and the sum is theirs.
-use Rattle.std.proofs.Common.{◌≡◌, ℕ, ◌+◌, ◌%◌, ◌<◌, ◌≤◌, true, List, [], ◌∷◌, ◌++◌, length, get_or, drop, set, replicate, ℤ, pos, ◌+ℤ◌, ◌-ℤ◌, sym, refl, ap, ◌∙◌, append_assoc, append-nil, lt_irrefl, mod-eq_of_lt, arith, length-append, lt-ltb, le-leb}
+use Rattle.std.proofs.Common.{◌≡◌, Ok, ℕ, ◌+◌, ◌%◌, ◌<◌, ◌≤◌, true, List, [], ◌∷◌, ◌++◌, length, get_or, drop, set, replicate, ℤ, pos, ◌+ℤ◌, ◌-ℤ◌, sym, refl, ap, ◌∙◌, append_assoc, append-nil, lt_irrefl, mod-eq_of_lt, arith, length-append, lt-ltb, le-leb}
 use native.Mathlib.Nat.{mod_self}
 use lib.IntN.{+ℤ_assoc, +ℤ_comm, +ℤ_idr, +ℤ-neg_ℤ_cancel}
 use lib.ListN.{length-replicate}
@@ -11,7 +11,7 @@ use Rattle.sums.specs.declared.Sliding.{Sliding}
 use Rattle.sums.specs.Fed.{Fed, fed, feed}
 use Rattle.sums.specs.Fresh.{Samples, total}
 use Rattle.sums.specs.Fresh.Samples.{more, none}
-use Rattle.sums.specs.Sums.{SampleOutcome, is_ready, largest_window, sample_of, next_sum, sliding, start_of, sample_outcome}
+use Rattle.sums.specs.Sums.{SampleOutcome, is_ready, largest_window, sample_of, next_sum, sliding, start_of, state_left, sample_outcome}
 use Rattle.sums.proofs.Ready.{ready_of}
 use Rattle.sums.proofs.Totals.{fresh_fits, padded, padded_more, padded_none, total_append}
 
@@ -29,7 +29,7 @@ pub record On (window : ℕ) (samples : List ℤ) (s : Sliding) (ring : List ℤ
 -- ---- a start
 
 pub start_on : (window : ℕ) (ring : List ℤ) → is_ready window 0 (length ring) ≡ true →
-    On window [] (start_of window ring).state (start_of window ring).ring
+    On window [] (state_left (start_of window ring).answer) (start_of window ring).ring
 unfolding start_of padded
 start_on window ring e =
     let r = ready_of window 0 (length ring) e in
@@ -73,7 +73,7 @@ module _ (window : ℕ) (newer : List ℤ) (o : ℤ) (rest past : List ℤ) (sum
 
   -- whatever the sum is
   placed : sample_of (sliding window (length newer) sum) ((newer ++ (o ∷ rest)) ++ past) x ≡
-      sample_outcome 0 (next_sum sum x o) (sliding window ((length newer + 1) % window) (next_sum sum x o)) ((newer ++ (x ∷ rest)) ++ past)
+      sample_outcome (Ok (next_sum sum x o)) (sliding window ((length newer + 1) % window) (next_sum sum x o)) ((newer ++ (x ∷ rest)) ++ past)
   unfolding sample_of
   placed = rw (place_ready, place_word newer o rest past, place_set newer o rest past x)
 
@@ -93,10 +93,10 @@ module _ (window : ℕ) (samples : List ℤ) (newer : List ℤ) (o : ℤ) (rest 
       ap (wrapped 64) e ∙ wrapped_same 64 sum (fresh_fits window (samples ++ (x ∷ [])) most fits)
 
   taken_next : sample_of (sliding window (length newer) (total (padded window samples))) ((newer ++ (o ∷ rest)) ++ past) x ≡
-      sample_outcome 0 sum (sliding window ((length newer + 1) % window) sum) ((newer ++ (x ∷ rest)) ++ past)
+      sample_outcome (Ok sum) (sliding window ((length newer + 1) % window) sum) ((newer ++ (x ∷ rest)) ++ past)
   taken_next =
       placed window newer o rest past (total (padded window samples)) x most size
-      ∙ ap (λ (z : ℤ). sample_outcome 0 z (sliding window ((length newer + 1) % window) z) ((newer ++ (x ∷ rest)) ++ past)) sum_next
+      ∙ ap (λ (z : ℤ). sample_outcome (Ok z) (sliding window ((length newer + 1) % window) z) ((newer ++ (x ∷ rest)) ++ past)) sum_next
 
 -- the place moves on, or is 0 again behind the last word of the window
 on_next : (window : ℕ) (samples newer : List ℤ) (o : ℤ) (rest past : List ℤ) (x : ℤ) → window ≤ largest_window →
@@ -132,8 +132,7 @@ on_next window samples newer o (r ∷ rest) past x most size last fits =
 
 -- what a sample x gives after samples
 pub record Gives (window : ℕ) (samples : List ℤ) (x : ℤ) (r : SampleOutcome) : Type 0 where
-  pub number : r.number ≡ 0
-  pub sum : r.sum ≡ total (padded window (samples ++ (x ∷ [])))
+  pub answer : r.answer ≡ Ok (total (padded window (samples ++ (x ∷ []))))
   pub kept : r.state.sum ≡ total (padded window (samples ++ (x ∷ [])))
   pub on : On window (samples ++ (x ∷ [])) r.state r.ring
 
@@ -143,7 +142,7 @@ gives : (window : ℕ) (samples newer older past : List ℤ) (x : ℤ) → windo
 gives window samples newer [] past x most size room last fits = absurd (lt_irrefl window (omega arith))
 gives window samples newer (o ∷ rest) past x most size room last fits =
     rw (taken_next window samples newer o rest past x most size last fits)
-    (record { number = refl; sum = refl; kept = refl; on = on_next window samples newer o rest past x most size last fits })
+    (record { answer = refl; kept = refl; on = on_next window samples newer o rest past x most size last fits })
 
 pub sample_gives : {window : ℕ} {samples : List ℤ} {s : Sliding} {ring : List ℤ} → On window samples s ring → (x : ℤ) → Samples (samples ++ (x ∷ [])) →
     Gives window samples x (sample_of s ring x)

@@ -1,23 +1,21 @@
 -- Which words of a ring a call reads and changes, and what a refused start leaves.
-use Rattle.std.proofs.Common.{◌≡◌, ℕ, ◌+◌, ◌-◌, ◌^◌, ◌<◌, ◌≤◌, ◌≢◌, List, ◌++◌, length, get_or, drop, replicate, ℤ, pos, ◌+ℤ◌, ◌-ℤ◌, refl, ap, ◌∙◌, arith, length-set, get_or-drop, get_or-set_other, get_or-append-add}
+use Rattle.std.proofs.Common.{◌≡◌, Err, IsErr, true, false, ℕ, ◌+◌, ◌-◌, ◌^◌, ◌<◌, ◌≤◌, ◌≢◌, List, ◌++◌, length, get_or, drop, replicate, ℤ, pos, ◌+ℤ◌, ◌-ℤ◌, refl, ap, ◌∙◌, arith, length-append, length-drop, length-set, get_or-drop, get_or-set_other, get_or-append-add}
 use lib.ListN.{length-replicate}
 use lib.Signed.{mag}
 use Rattle.bools.proofs.Tests.{cases}
 use Rattle.numbers.proofs.Complement.{wrapped_lt}
 use Rattle.sums.specs.declared.Sliding.{Sliding}
-use Rattle.sums.specs.Sums.{is_ready, no_window, bad_sum, sample_of, start_of, sample_outcome}
-use Rattle.sums.proofs.Clearing.{cleared_length}
+use Rattle.sums.specs.Sums.{cleared, is_ready, no_window, refusal, sample_of, start_of, state_left, sample_outcome}
 use Rattle.sums.proofs.Ready.{ready_of}
 
 module _ (s : Sliding) (ring : List ℤ) (x : ℤ) where
   pub reads_one : (other : List ℤ) → length ring ≡ length other → get_or ring s.place (pos 0) ≡ get_or other s.place (pos 0) →
-      ((sample_of s ring x).number ≡ (sample_of s other x).number) × ((sample_of s ring x).sum ≡ (sample_of s other x).sum)
-      × ((sample_of s ring x).state ≡ (sample_of s other x).state)
+      ((sample_of s ring x).answer ≡ (sample_of s other x).answer) × ((sample_of s ring x).state ≡ (sample_of s other x).state)
   unfolding sample_of
   reads_one other size word =
       cases (is_ready s.window s.place (length other))
-      (λ e. rw (size, e, word) (refl, refl, refl))
-      (λ e. rw (size, e) (refl, refl, refl))
+      (λ e. rw (size, e, word) (refl, refl))
+      (λ e. rw (size, e) (refl, refl))
 
   pub same_length : length (sample_of s ring x).ring ≡ length ring
   unfolding sample_of
@@ -47,12 +45,15 @@ module _ (s : Sliding) (ring : List ℤ) (x : ℤ) where
       writes_one i (λ (p : i ≡ s.place). absurd (omega arith)))
       (λ e. rw e)
 
-on_none : (ring : List ℤ) (x : ℤ) → sample_of no_window ring x ≡ sample_outcome bad_sum (pos 0) no_window ring
+on_none : (ring : List ℤ) (x : ℤ) → sample_of no_window ring x ≡ sample_outcome (Err refusal) no_window ring
 unfolding sample_of is_ready
 on_none ring x = refl
 
 module _ (window : ℕ) (ring : List ℤ) where
-  pub ranged_start : mag (start_of window ring).state.sum < 2 ^ 63
+  cleared_length : window ≤ length ring → length (cleared window ring) ≡ length ring
+  cleared_length h = simp (length-append, length-replicate, length-drop) (omega arith)
+
+  pub ranged_start : mag (state_left (start_of window ring).answer).sum < 2 ^ 63
   unfolding start_of
   ranged_start = cases (is_ready window 0 (length ring)) (λ e. rw e (omega arith)) (λ e. rw e (omega arith))
 
@@ -60,7 +61,7 @@ module _ (window : ℕ) (ring : List ℤ) where
   unfolding start_of
   start_length =
       cases (is_ready window 0 (length ring))
-      (λ e. rw e (cleared_length window ring (ready_of window 0 (length ring) e).in_ring))
+      (λ e. rw e (cleared_length (ready_of window 0 (length ring) e).in_ring))
       (λ e. rw e)
 
   pub past_start : (i : ℕ) → window ≤ i → get_or (start_of window ring).ring i (pos 0) ≡ get_or ring i (pos 0)
@@ -76,10 +77,10 @@ module _ (window : ℕ) (ring : List ℤ) where
       ∙ get_or-drop window ring (i - window) (pos 0) ∙ ap (λ (k : ℕ). get_or ring k (pos 0)) m))
       (λ e. rw e)
 
-  refused_state : ((start_of window ring).number ≡ 0 → ⊥) → (start_of window ring).state ≡ no_window
+  refused_state : IsErr (start_of window ring).answer → state_left (start_of window ring).answer ≡ no_window
   unfolding start_of
-  refused_state = cases (is_ready window 0 (length ring)) (λ e. λ h. absurd (h (rw e))) (λ e. λ h. rw e)
+  refused_state = cases (is_ready window 0 (length ring)) (λ e. λ h. let z : false ≡ true = rw e at h in cc) (λ e. λ h. rw e)
 
-  pub none_after : ((start_of window ring).number ≡ 0 → ⊥) → (other : List ℤ) (x : ℤ) →
-      sample_of (start_of window ring).state other x ≡ sample_outcome bad_sum (pos 0) no_window other
+  pub none_after : IsErr (start_of window ring).answer → (other : List ℤ) (x : ℤ) →
+      sample_of (state_left (start_of window ring).answer) other x ≡ sample_outcome (Err refusal) no_window other
   none_after h other x = ap (λ (s : Sliding). sample_of s other x) (refused_state h) ∙ on_none other x

@@ -1,7 +1,10 @@
 -- Document 02, CR 4: "32-bit samples of the count are fed in and the sum over the last W is given".
-use Rattle.std.specs.Prelude.{ℕ, ◌+◌, ◌%◌, Bool, ◌&&◌, List, ◌++◌, length, drop, replicate, ℤ, pos, ◌+ℤ◌, ◌-ℤ◌, nat_le, nat_lt, slice_index_or, slice_set}
+use Rattle.std.specs.Prelude.{ℕ, ◌+◌, ◌%◌, Bool, ◌&&◌, List, ◌++◌, length, drop, replicate, ℤ, pos, ◌+ℤ◌, ◌-ℤ◌, nat_le, nat_lt, slice_index_or, slice_set, Result}
+use Rattle.std.specs.declared.result.Result.TheVariants.{Ok, Err}
+use Rattle.std.specs.Result.{result_unwrap_or}
 use Rattle.bools.specs.Pick.{pick}
 use Rattle.numbers.specs.Signed.{wrapped}
+use Rattle.sums.specs.declared.BadSum.{BadSum}
 use Rattle.sums.specs.declared.Sliding.{Sliding}
 
 abbrev pub sliding : ℕ → ℕ → ℤ → Sliding
@@ -15,40 +18,49 @@ largest_window = 65536
 abbrev pub bad_sum : ℕ
 bad_sum = 14
 
+abbrev pub refusal : BadSum
+refusal = record {}
+
+-- the number of an answer: 0 or that of its refusal
+abbrev pub number_of : {A : Type 0} → Result A BadSum → ℕ
+number_of (Ok _) = 0
+number_of (Err _) = bad_sum
+
 unfoldable pub is_ready : ℕ → ℕ → ℕ → Bool
 is_ready window place words = (nat_le 1 window && nat_le window largest_window) && (nat_le window words && nat_lt place window)
 
--- what a start answers and leaves: 0 or the number of its refusal, the state, the ring
+-- what a start answers and leaves: the state or its refusal, and the ring
 pub record StartOutcome : Type 0 where
-  pub number : ℕ
-  pub state : Sliding
+  pub answer : Result Sliding BadSum
   pub ring : List ℤ
 
-abbrev pub start_outcome : ℕ → Sliding → List ℤ → StartOutcome
-start_outcome number state ring = record { number = number; state = state; ring = ring }
+abbrev pub start_outcome : Result Sliding BadSum → List ℤ → StartOutcome
+start_outcome answer ring = record { answer = answer; ring = ring }
 
 -- "with earlier samples as zero": the first W words are cleared; "words past W stay"
 abbrev pub cleared : ℕ → List ℤ → List ℤ
 cleared window ring = replicate window (pos 0) ++ drop window ring
 
--- a refused start hands back a state on which every sample is refused
-abbrev pub no_window : Sliding
-no_window = sliding 0 0 (pos 0)
-
 -- a start has the place 0
 unfoldable pub start_of : ℕ → List ℤ → StartOutcome
 start_of window ring =
-    pick (is_ready window 0 (length ring)) (start_outcome 0 (sliding window 0 (pos 0)) (cleared window ring)) (start_outcome bad_sum no_window ring)
+    pick (is_ready window 0 (length ring)) (start_outcome (Ok (sliding window 0 (pos 0))) (cleared window ring)) (start_outcome (Err refusal) ring)
 
--- what a sample answers and leaves: 0 or the number of its refusal, the sum, the state, the ring
+-- where a refused start has to leave a state, one on which every sample is refused
+abbrev pub no_window : Sliding
+no_window = sliding 0 0 (pos 0)
+
+abbrev pub state_left : Result Sliding BadSum → Sliding
+state_left answer = result_unwrap_or answer no_window
+
+-- what a sample answers and leaves: the sum or its refusal, the state, the ring
 pub record SampleOutcome : Type 0 where
-  pub number : ℕ
-  pub sum : ℤ
+  pub answer : Result ℤ BadSum
   pub state : Sliding
   pub ring : List ℤ
 
-abbrev pub sample_outcome : ℕ → ℤ → Sliding → List ℤ → SampleOutcome
-sample_outcome number sum state ring = record { number = number; sum = sum; state = state; ring = ring }
+abbrev pub sample_outcome : Result ℤ BadSum → Sliding → List ℤ → SampleOutcome
+sample_outcome answer state ring = record { answer = answer; state = state; ring = ring }
 
 -- the new sample in, the oldest out, whatever state and ring are: "elsewhere sums wrap at 64 bits"
 abbrev pub next_sum : ℤ → ℤ → ℤ → ℤ
@@ -60,9 +72,9 @@ next_sum_by s ring sample = next_sum s.sum sample (slice_index_or ring s.place (
 -- the sample takes the oldest one's word, and the place moves on
 abbrev pub sample_taken : Sliding → List ℤ → ℤ → SampleOutcome
 sample_taken s ring sample =
-    sample_outcome 0 (next_sum_by s ring sample) (sliding s.window ((s.place + 1) % s.window) (next_sum_by s ring sample)) (slice_set ring s.place sample)
+    sample_outcome (Ok (next_sum_by s ring sample)) (sliding s.window ((s.place + 1) % s.window) (next_sum_by s ring sample)) (slice_set ring s.place sample)
 
--- "A refused start or sample touches nothing": the state is handed back as it was, and the sum is 0
+-- "A refused start or sample touches nothing": state and ring stay as they were
 unfoldable pub sample_of : Sliding → List ℤ → ℤ → SampleOutcome
 sample_of s ring sample =
-    pick (is_ready s.window s.place (length ring)) (sample_taken s ring sample) (sample_outcome bad_sum (pos 0) s ring)
+    pick (is_ready s.window s.place (length ring)) (sample_taken s ring sample) (sample_outcome (Err refusal) s ring)
