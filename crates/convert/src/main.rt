@@ -53,12 +53,10 @@ fn tell_refusal(stderr: &Stderr, number: u16, frame: usize) {
 fn main(rt: HostRuntime) {
     let stderr = rt.stderr();
     let mut buf = capture_space();
-    let input = standard_input::read_input(&mut rt.stdin(), &mut buf);
-    if input.failed {
+    let Ok(n) = standard_input::read_input(&mut rt.stdin(), &mut buf) else {
         tell(&stderr, b"convert: cannot read standard input\n");
         return;
-    }
-    let n = input.length;
+    };
     if LIMIT < n {
         tell(
             &stderr,

@@ -1,13 +1,6 @@
--- Texts as bytes, and numbers in digits.
-use Prim.Native.Char.{code}
+-- Numbers in digits.
 use Rattle.std.specs.Prelude.{ℕ, zero, suc, ◌+◌, ◌/◌, ◌%◌, List, [], ◌∷◌, ◌++◌, ltb}
-use Prim.Native.String.{String, [] as []ˢ, ◌∷◌ as ◌∷ˢ◌}
 use Rattle.bools.specs.Pick.{pick}
-
--- the bytes of a text
-unfoldable pub ascii : String → List ℕ
-ascii []ˢ = []
-ascii (c ∷ˢ s) = code c ∷ ascii s
 
 -- a digit below 16: 0 to 9, then a to f
 abbrev pub digit : ℕ → ℕ

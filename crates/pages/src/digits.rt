@@ -1,47 +1,28 @@
 // Numbers in digits.
-ghost use Rattle.std.specs.Prelude.{◌≡◌, ◌++◌, ◌<◌};
+ghost use Rattle.std.specs.Prelude.{◌≡◌, ◌++◌};
 ghost use Rattle.pages.specs.Page.{written, cut};
-ghost use Rattle.pages.specs.Text.{decimal_in};
-ghost use Rattle.pages.specs.Text.{digit as printed_digit, decimal as printed_decimal, hexadecimal as printed_hexadecimal};
+ghost use Rattle.pages.specs.Text.{decimal as printed_decimal, hexadecimal as printed_hexadecimal};
 
 use crate::page::Page;
 
-// A digit below 16, in lower case.
-fn digit(d: u64) -> u8
-    requires { d < 16 }
-    ensures { result ≡ printed_digit d }
-{
-    if d < 10 { 48 + d as u8 } else { 87 + d as u8 }
-}
-
-// The last `places` decimal digits of n, with no zeros in front.
-fn put_decimal_in(page: Page, places: usize, n: u64) -> Page
-    ensures { written result ≡ cut (written page ++ decimal_in places n) }
-{
-    if places == 0 {
-        return page;
+impl Page {
+    // n in decimal.
+    #[tactic(auto, using(crate::proofs::Places::decimal_text))]
+    pub fn put_decimal(self, n: u64) -> Page
+        ensures { written result ≡ cut (written self ++ printed_decimal n) }
+    {
+        self.put_text(itoa::Buffer::new().format(n).as_bytes())
     }
-    let last = digit(n % 10);
-    if n < 10 {
-        return page.put(last);
-    }
-    put_decimal_in(page, places - 1, n / 10).put(last)
-}
 
-// n in decimal.
-pub fn put_decimal(page: Page, n: u64) -> Page
-    ensures { written result ≡ cut (written page ++ printed_decimal n) }
-{
-    put_decimal_in(page, 20, n)
-}
-
-// The last `places` hexadecimal digits of n.
-pub fn put_hexadecimal(page: Page, places: usize, n: u64) -> Page
-    ensures { written result ≡ cut (written page ++ printed_hexadecimal places n) }
-{
-    if places == 0 {
-        return page;
+    // The last `places` hexadecimal digits of n: one by one, as `write!` with `{:x}` promises what it writes only where it succeeds, and this cannot fail.
+    #[tactic(auto, using(crate::proofs::Places::no_digits, crate::proofs::Places::one_more_digit))]
+    pub fn put_hexadecimal(self, places: usize, n: u64) -> Page
+        ensures { written result ≡ cut (written self ++ printed_hexadecimal places n) }
+    {
+        if places == 0 {
+            return self;
+        }
+        let last = char::from_digit((n % 16) as u32, 16).unwrap() as u8;
+        self.put_hexadecimal(places - 1, n / 16).put(last)
     }
-    let last = digit(n % 16);
-    put_hexadecimal(page, places - 1, n / 16).put(last)
 }

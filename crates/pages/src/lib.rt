@@ -4,5 +4,4 @@
 mod digits;
 mod page;
 
-pub use digits::{put_decimal, put_hexadecimal};
 pub use page::Page;

@@ -28,21 +28,21 @@ pub fn load<R: Files + Eprint>(rt: &R, file: &[u8], buf: &mut [u8]) -> usize
     ensures { IsPrefixLen result buf.new }
 {
     match open_file(rt, file) {
-        Some(mut opened) => standard_input::read_input(&mut opened, buf).length,
+        Some(mut opened) => {
+            standard_input::read_input(&mut opened, buf).unwrap_or_else(|e| e.length)
+        }
         None => 0,
     }
 }
 
 // A trace, so many times, with 1,000,000 ticks each time.
+#[tactic(auto, using(crate::proofs::Runs::often_less, crate::proofs::Runs::often_done))]
 pub fn run_often(state: Crate, mem: &mut [u16], trace: &[u8], times: u32) -> Crate
     ensures { machine result mem.new ≡ ran_often times trace.now (machine state mem.old) }
 {
     let mut on = state;
-    let mut left = times;
-    while 0 < left {
-        let end = trace::run(on, mem, trace, 1000000);
-        on = end.state;
-        left -= 1;
+    for _ in 0..times {
+        on = trace::run(on, mem, trace, 1_000_000).state;
     }
     on
 }

@@ -1,18 +1,35 @@
--- Words one by one: those of n registers are the first and the others.
-use Prim.Native.Nat.{ℕ, zero, suc, ◌+◌, ◌-◌, ◌<◌}
-use native.Mathlib.Nat.{not-suc-le-zero}
+-- The parts of the lines one by one: a refusal's number, and the words of n registers, the first and the others.
+use Prim.Native.Nat.{ℕ, suc, ◌+◌, ◌-◌, ◌<◌, ◌≤◌}
 use native.Mathlib.Omega.{arith}
 use mathlib.Core.List.{◌∷◌, ◌++◌}
-use mathlib.Core.Path.{◌≡◌}
+use mathlib.Core.Path.{◌≡◌, refl, sym}
 use Rattle.reading.specs.Read.{read_of}
 use Rattle.device.specs.State.{Machine}
-use Rattle.pages.specs.Text.{ascii, hexadecimal}
-use Rattle.printing.specs.Printed.{words_from}
+use Rattle.records.specs.declared.Stop.{Stop}
+use Rattle.records.specs.declared.Stop.TheVariants.{End, Spent}
+use Rattle.records.specs.Stops.{stop_number}
+use Rattle.pages.specs.declared.page.Page.{Page}
+use Rattle.pages.specs.Page.{written, cut}
+use Rattle.pages.specs.Text.{decimal, hexadecimal}
+use Rattle.pages.proofs.Pages.{same_page}
+use Rattle.printing.specs.Printed.{stop_text, words_from}
 
--- one more word
-pub words_more : (m : Machine) (n a : ℕ) → 0 < n →
-    words_from m n a ≡ 32 ∷ (hexadecimal 4 (read_of m a).word ++ words_from m (n - 1) (a + 1))
-unfolding words_from ascii
-words_more m zero a h = absurd (not-suc-le-zero h)
-words_more m (suc n) a h =
-    let e : suc n - 1 ≡ n = omega arith in rw e
+-- a stop that is neither END nor SPENT is told by its number
+pub refusal_text : (s : Stop) → (s ≡ End → ⊥) → (s ≡ Spent → ⊥) → stop_text s ≡ decimal (stop_number s)
+unfolding stop_text
+refusal_text End no_end no_spent = absurd (no_end refl)
+refusal_text Spent no_end no_spent = absurd (no_spent refl)
+refusal_text _ no_end no_spent = refl
+
+-- the words up to an address: one more, and none
+module _ (m : Machine) (a end : ℕ) where
+  pub words_more : a < end →
+      words_from m (end - a) a ≡ (32 ∷ hexadecimal 4 (read_of m a).word) ++ words_from m (end - (a + 1)) (a + 1)
+  unfolding words_from
+  words_more h =
+      let e : end - a ≡ suc (end - (a + 1)) = omega arith in rw e
+
+  pub no_words : (p : Page) → end ≤ a → cut (written p ++ words_from m (end - a) a) ≡ written p
+  unfolding words_from
+  no_words p h =
+      let e : end - a ≡ 0 = omega arith in rw e (sym (same_page p))

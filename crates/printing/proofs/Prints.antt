@@ -1,29 +1,17 @@
 -- What a run from power-up leaves prints as the program does.
 use Prim.Native.Nat.{ℕ, min}
-use native.Mathlib.Omega.{arith}
 use mathlib.Core.List.{List}
-use mathlib.Core.Path.{◌≡◌, ap, sym, ◌∙◌}
-use borrow.Author.Tests.{eq-eqb, ltb-true, ltb-false}
-use lib.Dec.{ltb}
+use mathlib.Core.Path.{◌≡◌, ap}
+use borrow.Author.Tests.{eq-eqb}
 use lib.ListN.{length, take}
-use lib.Seq.{take_all, take-length}
-use Rattle.bools.proofs.Tests.{cases}
+use Rattle.std.proofs.Math.Nat.{min_comm}
+use Rattle.std.proofs.lemmas.List.{take_min}
 use Rattle.device.specs.declared.answer.Outcome.{Outcome}
 use Rattle.registers.specs.Calls.{powered, powered_memory}
 use Rattle.device.specs.State.{machine, memory0}
 use Rattle.trace.specs.declared.Progress.{Progress}
 use Rattle.trace.specs.Run.{Run, machine_of, run_of, run}
 use Rattle.printing.specs.Printed.{printed, program_bytes, program_prints, program_run, program_ticks}
-
--- as many elements as there are, and no more than k
-take_min : (k : ℕ) (l : List ℕ) → take (min (length l) k) l ≡ take k l
-take_min k l =
-    cases (ltb (length l) k)
-    (λ e.
-    let h : min (length l) k ≡ length l = omega (arith, ltb-true (length l) k e) in
-    rw h (take-length l ∙ sym (take_all k l (omega (arith, ltb-true (length l) k e)))))
-    (λ e.
-    let h : min (length l) k ≡ k = omega (arith, ltb-false (length l) k e) in rw h)
 
 -- `words` is the memory lent, `start` the memory powered up
 pub prints : (input : List ℕ) (n : ℕ) (words start : List ℕ) (o : Outcome) (p : Progress) (memory : List ℕ) →
@@ -33,5 +21,5 @@ pub prints : (input : List ℕ) (n : ℕ) (words start : List ℕ) (o : Outcome)
 unfolding program_run program_prints powered powered_memory
 prints input n words start o p memory taken long po ps e =
     let m : start ≡ memory0 = rw eq-eqb at ps in
-    let r : run p memory ≡ program_run input = rw (taken, take_min program_bytes input, po, m) at e in
+    let r : run p memory ≡ program_run input = rw (taken, min_comm, take_min, po, m) at e in
     ap (λ (q : Run). printed q.progress.report (machine_of q)) r

@@ -1,5 +1,5 @@
 -- The lengths of what is printed: it fits a page.
-use Prim.Native.Nat.{ℕ, zero, suc, ◌+◌, ◌*◌, ◌/◌, ◌≤◌, ◌<◌}
+use Prim.Native.Nat.{ℕ, zero, suc, ◌+◌, ◌*◌, ◌/◌, ◌≤◌}
 use native.Mathlib.Omega.{arith}
 use mathlib.Core.List.{List}
 use mathlib.Core.Path.{◌≡◌, refl}
@@ -9,8 +9,10 @@ use Rattle.bools.proofs.Tests.{both}
 use Rattle.device.specs.State.{Machine}
 use Rattle.trace.specs.declared.Report.{Report}
 use Rattle.records.specs.declared.Stop.{Stop}
-use Rattle.records.specs.declared.Stop.TheVariants.{End, Spent, Memory, UnknownTag, WrongLength, Cut, NoRepeat}
-use Rattle.pages.specs.Text.{ascii, decimal_in, decimal, hexadecimal}
+use Rattle.records.specs.declared.Stop.TheVariants.{End, Spent}
+use Rattle.pages.specs.Page.{cut}
+use Rattle.pages.specs.Text.{decimal_in, decimal, hexadecimal}
+use Rattle.pages.proofs.Pages.{fits}
 use Rattle.printing.specs.Printed.{stop_text, report_line, words_from, printed}
 
 decimal_in_length : (places n : ℕ) → length (decimal_in places n) ≤ places
@@ -30,25 +32,21 @@ hexadecimal_length zero n = refl
 hexadecimal_length (suc places) n = rw (length-append, hexadecimal_length places (n / 16)) (omega arith)
 
 stop_length : (s : Stop) → length (stop_text s) ≤ 20
-unfolding stop_text ascii
+unfolding stop_text
 stop_length End = omega arith
 stop_length Spent = omega arith
-stop_length Memory = decimal_length _
-stop_length UnknownTag = decimal_length _
-stop_length WrongLength = decimal_length _
-stop_length Cut = decimal_length _
-stop_length NoRepeat = decimal_length _
+stop_length _ = decimal_length _
 
 report_length : (r : Report) → length (report_line r) ≤ 137
-unfolding report_line ascii
+unfolding report_line
 report_length r = simp length-append (omega (arith, stop_length r.stop, decimal_length r.next, decimal_length r.ticks, decimal_length r.records, decimal_length r.refused))
 
 words_length : (m : Machine) (n a : ℕ) → length (words_from m n a) ≡ 5 * n
-unfolding words_from ascii
+unfolding words_from
 words_length m zero a = refl
 words_length m (suc n) a = simp (length-append, hexadecimal_length, words_length m n (a + 1)) (omega arith)
 
--- the four lines leave room on a page
-pub printed_length : (r : Report) (m : Machine) → length (printed r m) < 256
-unfolding printed ascii
-printed_length r m = simp (length-append, words_length, hexadecimal_length) (omega (arith, report_length r))
+-- the four lines fit a page
+pub whole : (r : Report) (m : Machine) → cut (printed r m) ≡ printed r m
+unfolding printed
+whole r m = fits (printed r m) (simp (length-append, words_length, hexadecimal_length) (omega (arith, report_length r)))

@@ -1,46 +1,42 @@
 -- Document 01, "Trace and printing program": the four lines that the program prints, as bytes.
-use Rattle.std.specs.Prelude.{ℕ, zero, suc, ◌+◌, List, [], ◌++◌, take}
-use Rattle.pages.specs.Text.{ascii, decimal, hexadecimal}
+use Rattle.std.specs.Prelude.{ℕ, zero, suc, ◌+◌, List, [], ◌++◌, take, codes}
+use Rattle.pages.specs.Text.{decimal, hexadecimal}
 use Rattle.registers.specs.Calls.{machine0}
 use Rattle.reading.specs.Read.{read_of}
 use Rattle.device.specs.State.{Machine}
 use Rattle.trace.specs.declared.Report.{Report}
 use Rattle.records.specs.declared.Stop.{Stop}
-use Rattle.records.specs.declared.Stop.TheVariants.{End, Spent, Memory, UnknownTag, WrongLength, Cut, NoRepeat}
+use Rattle.records.specs.declared.Stop.TheVariants.{End, Spent}
 use Rattle.trace.specs.Run.{Run, machine_of, run_of}
 use Rattle.records.specs.Stops.{stop_number}
 
 -- "STOP is END, SPENT or 7 to 10"
 unfoldable pub stop_text : Stop → List ℕ
-stop_text End = ascii "END"
-stop_text Spent = ascii "SPENT"
-stop_text Memory = decimal (stop_number Memory)
-stop_text UnknownTag = decimal (stop_number UnknownTag)
-stop_text WrongLength = decimal (stop_number WrongLength)
-stop_text Cut = decimal (stop_number Cut)
-stop_text NoRepeat = decimal (stop_number NoRepeat)
+stop_text End = codes "END"
+stop_text Spent = codes "SPENT"
+stop_text refusal = decimal (stop_number refusal)
 
 unfoldable pub report_line : Report → List ℕ
 report_line r =
-    ascii "STOP " ++ stop_text r.stop
-    ++ ascii " NEXT " ++ decimal r.next
-    ++ ascii " TICKS " ++ decimal r.ticks
-    ++ ascii " RECORDS " ++ decimal r.records
-    ++ ascii " REFUSED " ++ decimal r.refused
-    ++ ascii "\n"
+    codes "STOP " ++ stop_text r.stop
+    ++ codes " NEXT " ++ decimal r.next
+    ++ codes " TICKS " ++ decimal r.ticks
+    ++ codes " RECORDS " ++ decimal r.records
+    ++ codes " REFUSED " ++ decimal r.refused
+    ++ codes "\n"
 
 -- n words from an address on, "four lower-case hexadecimal digits each"
 unfoldable pub words_from : Machine → ℕ → ℕ → List ℕ
 words_from m zero a = []
-words_from m (suc n) a = ascii " " ++ hexadecimal 4 (read_of m a).word ++ words_from m n (a + 1)
+words_from m (suc n) a = codes " " ++ hexadecimal 4 (read_of m a).word ++ words_from m n (a + 1)
 
 -- "It prints the run, both overflow blocks from the lowest address .., and 0x0719 (two)."
 unfoldable pub printed : Report → Machine → List ℕ
 printed r m =
     report_line r
-    ++ ascii "NEG" ++ words_from m 8 0x0700 ++ ascii "\n"
-    ++ ascii "POS" ++ words_from m 8 0x0708 ++ ascii "\n"
-    ++ ascii "OUT " ++ hexadecimal 2 (read_of m 0x0719).word ++ ascii "\n"
+    ++ codes "NEG" ++ words_from m 8 0x0700 ++ codes "\n"
+    ++ codes "POS" ++ words_from m 8 0x0708 ++ codes "\n"
+    ++ codes "OUT " ++ hexadecimal 2 (read_of m 0x0719).word ++ codes "\n"
 
 -- "The program runs the first 65,536 bytes of standard input, .. from power-up with 1,000,000 ticks."
 abbrev pub program_bytes : ℕ

@@ -1,70 +1,51 @@
 // What the program prints: the four lines, and the run that they tell of.
-ghost use Rattle.std.specs.Prelude.{◌≡◌, ◌++◌, ◌+◌, ◌≤◌, ◌<◌, min, length};
+ghost use Rattle.std.specs.Prelude.{◌≡◌, ◌++◌, ◌+◌, ◌<◌, codes};
 ghost use Rattle.device.specs.State.{machine};
 ghost use Rattle.pages.specs.Page.{written, cut};
-ghost use Rattle.pages.specs.Text.{ascii};
-ghost use Rattle.printing.specs.Printed.{words_from, program_bytes, program_prints};
+ghost use Rattle.printing.specs.Printed.{words_from, program_prints};
 ghost use Rattle.printing.specs.Printed.{printed as printed_printed};
 
 use crate::report::put_report;
 use device::Crate;
-use pages::{Page, put_hexadecimal};
+use pages::Page;
 use trace::Report;
 
-// The words of n registers from an address on.
-fn put_words(page: Page, state: Crate, mem: &[u16], n: u16, address: u16) -> Page
-    requires { address + n < 65536 }
-    ensures { written result ≡ cut (written page ++ words_from (machine state mem.now) n address) }
-{
-    let mut p = page;
-    let mut a = address;
-    let mut left = n;
-    while 0 < left {
-        let read = registers::read(state, mem, a);
-        p = put_hexadecimal(p.put(b' '), 4, read.word as u64);
-        a += 1;
-        left -= 1;
-    }
-    p
-}
-
 // A line of the eight words from an address on, behind its name.
+#[tactic(auto, using(crate::proofs::Places::words_more, crate::proofs::Places::no_words, pages::proofs::Pages::cut_two, pages::proofs::Pages::cut_cut))]
 fn put_block(page: Page, name: &[u8], state: Crate, mem: &[u16], address: u16) -> Page
     requires { address + 8 < 65536 }
-    ensures { written result ≡ cut (written page ++ (name.now ++ (words_from (machine state mem.now) 8 address ++ ascii "\n"))) }
+    ensures { written result ≡ cut (written page ++ (name.now ++ (words_from (machine state mem.now) 8 address ++ codes "\n"))) }
 {
-    put_words(page.put_text(name), state, mem, 8, address).put(b'\n')
+    let mut line = page.put_text(name);
+    for a in address..address + 8 {
+        let word = registers::read(state, mem, a).word;
+        line = line.put(b' ').put_hexadecimal(4, word.into());
+    }
+    line.put(b'\n')
 }
 
 // The report, both overflow blocks and the outputs.
 pub fn printed(report: Report, state: Crate, mem: &[u16]) -> Page
-    ensures { (written result ≡ printed_printed report (machine state mem.now)) × (result.length ≤ length result.bytes) × (mem.now ≡ mem.now) }
+    ensures text { written result ≡ printed_printed report (machine state mem.now) }
+    ensures memory { mem.now ≡ mem.now }
 {
-    let mut p = put_report(Page::new(), report);
-    p = put_block(p, b"NEG", state, mem, 0x0700);
-    p = put_block(p, b"POS", state, mem, 0x0708);
-    let outputs = registers::read(state, mem, 0x0719);
-    p = put_hexadecimal(p.put_text(b"OUT "), 2, outputs.word as u64);
-    p.put(b'\n')
-}
-
-// How many bytes of the input are run.
-fn taken(length: usize) -> usize
-    ensures { result ≡ min length program_bytes }
-{
-    if length < 65536 { length } else { 65536 }
+    let mut page = put_report(Page::new(), report);
+    page = put_block(page, b"NEG", state, mem, 0x0700);
+    page = put_block(page, b"POS", state, mem, 0x0708);
+    let outputs = registers::read(state, mem, 0x0719).word;
+    page.put_text(b"OUT ")
+        .put_hexadecimal(2, outputs.into())
+        .put(b'\n')
 }
 
 // What the program prints for its input: its first 65,536 bytes, run from power-up with 1,000,000 ticks.
 pub fn rehearse(input: &[u8]) -> Page
-    ensures { (written result ≡ program_prints input.now) × (result.length ≤ length result.bytes) × (input.now ≡ input.now) }
+    ensures text { written result ≡ program_prints input.now }
+    ensures bytes { input.now ≡ input.now }
 {
-    let n = taken(input.len());
-    let mut mem = [0u16; 16384];
+    let trace = &input[..input.len().min(65_536)];
+    let mut mem = [0; 16384];
     let start = registers::power_up(&mut mem);
-    let first = start.state;
-    let end = trace::run(first, &mut mem, &input[..n], 1000000);
-    let report = end.report;
-    let state = end.state;
-    printed(report, state, &mem)
+    let end = trace::run(start.state, &mut mem, trace, 1_000_000);
+    printed(end.report, end.state, &mem)
 }

@@ -4,16 +4,12 @@
 
 fn main(rt: HostRuntime) {
     let mut buf = io::large_buffer();
-    let input = standard_input::read_input(&mut rt.stdin(), &mut buf);
-    if input.failed {
+    let Ok(n) = standard_input::read_input(&mut rt.stdin(), &mut buf) else {
         let _ = rt.eprintln("rehearse: cannot read standard input");
         return;
-    }
-    let n = input.length;
+    };
     let page = printing::rehearse(&buf[..n]);
-    let bytes = page.bytes;
-    let length = page.length;
-    if rt.write_all(&bytes[..length]).is_err() {
+    if rt.write_all(page.as_bytes()).is_err() {
         let _ = rt.eprintln("rehearse: cannot write standard output");
     }
 }

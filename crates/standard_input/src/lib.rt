@@ -1,53 +1,30 @@
 // Standard input, or a file, read into a buffer: what the programs share.
 #![tactic(auto)]
 
-ghost use Rattle.std.specs.Prelude.{◌+◌, ◌≤◌, length};
+ghost use Rattle.std.specs.Prelude.{IfOk, IfErr};
 ghost use Rattle.io.specs.Counts.{IsPrefixLen};
 
 use std::io::Read;
 
-// How many bytes were read, and whether a read failed.
-#[derive(Clone, Copy)]
-pub struct Input {
+// A read failed, and so many bytes were read before it.
+#[derive(Clone, Copy, Debug, PartialEq, Eq)]
+pub struct ReadError {
     pub length: usize,
-    pub failed: bool,
 }
 
-// One read into the buffer from a place on.
-fn read_at<R: Read>(reader: &mut R, buf: &mut [u8], done: usize) -> Input
-    requires { done ≤ length buf.old }
-    ensures { done + result.length ≤ length buf.old }
+// Reads until the buffer is full, the input ends or a read fails, and says how many bytes it read; it asks for no byte past the buffer. Of the
+// bytes of standard input or of a file no contract can speak: what a read brings is the system's.
+pub fn read_input<R: Read>(reader: &mut R, buf: &mut [u8]) -> Result<usize, ReadError>
+    ensures read { IfOk result (λ length. IsPrefixLen length buf.new) }
+    ensures read_before { IfErr result (λ e. IsPrefixLen e.length buf.new) }
 {
-    match reader.read(&mut buf[done..]) {
-        Ok(length) => Input {
-            length,
-            failed: false,
-        },
-        Err(_) => Input {
-            length: 0,
-            failed: true,
-        },
-    }
-}
-
-// Reads until the buffer is full, the input ends or a read fails; it asks for no byte past the buffer. Of the bytes of standard input or of
-// a file no contract can speak: what a read brings is the system's.
-pub fn read_input<R: Read>(reader: &mut R, buf: &mut [u8]) -> Input
-    ensures { IsPrefixLen result.length buf.new }
-{
-    let mut done: usize = 0;
-    while done < buf.len() {
-        let more = read_at(reader, buf, done);
-        if more.length == 0 {
-            return Input {
-                length: done,
-                failed: more.failed,
-            };
+    let mut length = 0;
+    while length < buf.len() {
+        match reader.read(&mut buf[length..]) {
+            Ok(0) => break,
+            Ok(more) => length += more,
+            Err(_) => return Err(ReadError { length }),
         }
-        done += more.length;
     }
-    Input {
-        length: done,
-        failed: false,
-    }
+    Ok(length)
 }

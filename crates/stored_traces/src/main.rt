@@ -8,90 +8,46 @@ use pages::Page;
 use playing::write;
 use std::io::Read;
 
+#[derive(Clone, Copy)]
+struct Stored<'a> {
+    trace: &'a [u8],
+    budget: u64,
+}
+
 // One word more in a digest.
 fn fold(d: u32, word: u16) -> u32 {
-    (((d as u64) * 65599 + (word as u64) + 1) % 4294967291) as u32
+    ((u64::from(d) * 65599 + u64::from(word) + 1) % 4294967291) as u32
 }
 
-// The words of the registers from 0x0600 to 0x19FF.
-fn fold_registers(start: u32, state: Crate, mem: &[u16; 16384]) -> u32 {
-    let mut d = start;
-    let mut address: u16 = 0x0600;
-    while address < 0x1A00 {
-        let read = registers::read(state, mem, address);
-        d = fold(d, read.word);
-        address += 1;
-    }
-    d
+// Of the words of the registers from 0x0600 to 0x19FF, and of the memory.
+fn digest(state: Crate, mem: &[u16; 16384]) -> u32 {
+    (0x0600..0x1A00)
+        .map(|address| registers::read(state, mem, address).word)
+        .chain(mem.iter().copied())
+        .fold(0, fold)
 }
 
-fn fold_memory(start: u32, mem: &[u16; 16384]) -> u32 {
-    let mut d = start;
-    let mut i: usize = 0;
-    while i < 16384 {
-        d = fold(d, mem[i]);
-        i += 1;
-    }
-    d
-}
-
-// One stored trace.
-fn run(rt: &impl Print, trace: &[u8], budget: u64) {
-    let mut mem = [0u16; 16384];
+fn run(rt: &impl Print, stored: Stored<'_>) {
+    let mut mem = [0; 16384];
     let start = registers::power_up(&mut mem);
-    let first = start.state;
-    let end = trace::run(first, &mut mem, trace, budget);
-    let state = end.state;
-    let d = fold_memory(fold_registers(0, state, &mem), &mem);
-    let report = end.report;
-    let told = printing::put_report(Page::new(), report);
-    write(
-        rt,
-        pages::put_hexadecimal(told.put_text(b"DIGEST "), 8, d as u64).put(b'\n'),
-    );
+    let end = trace::run(start.state, &mut mem, stored.trace, stored.budget);
+    let told = printing::put_report(Page::new(), end.report).put_text(b"DIGEST ");
+    let d = digest(end.state, &mem);
+    write(rt, told.put_hexadecimal(8, d.into()).put(b'\n'));
 }
 
-// A number of up to 63 bits and one byte more.
-fn shift_in(n: u64, b: u8) -> u64 {
-    n % 36028797018963968 * 256 + (b as u64)
-}
-
-// The number of the n bytes from a place on.
-fn number(bytes: &[u8; 12], at: usize, n: usize) -> u64 {
-    let mut v: u64 = 0;
-    let mut k: usize = 0;
-    while k < 12 {
-        if at <= k && k - at < n {
-            v = shift_in(v, bytes[k]);
-        }
-        k += 1;
-    }
-    v
-}
-
-// A trace as long as the buffer, if the file has it.
-fn read_and_run<F: Read>(rt: &impl Print, file: &mut F, buf: &mut [u8], budget: u64) -> bool {
-    let got = standard_input::read_input(file, buf).length;
-    if got < buf.len() {
-        return false;
-    }
-    run(rt, buf, budget);
-    true
-}
-
-// The next trace of the file, if there is one.
-fn run_next<F: Read>(rt: &impl Print, file: &mut F) -> bool {
-    let mut head = [0u8; 12];
-    if standard_input::read_input(file, &mut head).length < 12 {
-        return false;
-    }
-    let length = number(&head, 0, 4) as usize;
-    let budget = number(&head, 4, 8);
-    if 65536 < length {
-        return false;
-    }
-    let mut buf = io::large_buffer();
-    read_and_run(rt, file, &mut buf[..length], budget)
+// The next trace of the file, if it has one whole that the buffer holds.
+fn next_trace<'a, F: Read>(file: &mut F, buf: &'a mut [u8; 65536]) -> Option<Stored<'a>> {
+    let mut length = [0; 4];
+    let mut budget = [0; 8];
+    file.read_exact(&mut length).ok()?;
+    file.read_exact(&mut budget).ok()?;
+    let trace = buf.get_mut(..u32::from_be_bytes(length) as usize)?;
+    file.read_exact(trace).ok()?;
+    Some(Stored {
+        trace,
+        budget: u64::from_be_bytes(budget),
+    })
 }
 
 // All traces of the file.
@@ -99,8 +55,11 @@ fn main(rt: HostRuntime) {
     let Some(mut file) = playing::open_file(&rt, b"traces") else {
         return;
     };
-    let mut left: u64 = 10000;
-    while 0 < left && run_next(&rt, &mut file) {
-        left -= 1;
+    let mut buf = io::large_buffer();
+    for _ in 0..10_000 {
+        let Some(stored) = next_trace(&mut file, &mut buf) else {
+            return;
+        };
+        run(&rt, stored);
     }
 }

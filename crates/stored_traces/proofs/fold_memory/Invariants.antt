@@ -1,9 +1,0 @@
--- `fold_memory` is safe and ends: the measure is the words left.
-use Rattle.std.proofs.Common.{◌-◌}
-use Rattle.stored_traces.proofs.fold_memory.Given as goal
-
-abbrev pub invariant-loop-i : goal.invariant-loop-i
-invariant-loop-i l = Unit {0}
-
-abbrev pub decreases-loop-i : goal.decreases-loop-i
-decreases-loop-i l = 16384 - l.i

@@ -1,8 +1,0 @@
--- `main` is safe and ends: the measure is the turns left.
-use Rattle.stored_traces.proofs.main.Given as goal
-
-abbrev pub invariant-loop-left : goal.invariant-loop-left
-invariant-loop-left l = Unit {0}
-
-abbrev pub decreases-loop-left : goal.decreases-loop-left
-decreases-loop-left l = l.left
