@@ -1,50 +1,53 @@
--- What a conversion leaves, by its number.
-use Prim.Native.Nat.{ℕ, ◌%◌, ◌≤◌, ◌<◌}
+-- What a conversion that is done leaves.
+use Prim.Native.Nat.{ℕ, ◌%◌, ◌≤◌}
 use native.Mathlib.Omega.{arith}
 use mathlib.Core.Bool.{false}
-use mathlib.Core.List.{List}
-use mathlib.Core.Path.{◌≡◌, refl, sym, subst}
+use mathlib.Core.List.{List, ◌++◌}
+use mathlib.Core.Path.{◌≡◌, refl, ap}
 use lib.Dec.{eqb, ltb}
 use lib.ListN.{length, drop, length-append, take}
 use lib.Seq.{take_at}
+use Rattle.std.proofs.Common.{Ok, Err}
 use Rattle.bools.proofs.Tests.{pick_elim}
-use Rattle.captures.specs.declared.Converted.{Converted}
-use Rattle.captures.specs.Captures.{Conversion, conversion, conversion_of, first_bad, frame_bytes, frames_of, has_bad, refusal, trace_of}
+use Rattle.captures.specs.declared.Refusal.{Refusal}
+use Rattle.captures.specs.declared.Refusal.TheVariants.{NotFrames, BadLevel, NoRoom}
+use Rattle.captures.specs.Captures.{Conversion, conversion, conversion_of, conversion_to, first_bad, frame_bytes, frames_of, has_bad, refusal, trace_of}
 use Rattle.captures.specs.Returned.{Made}
 
--- its length lies within the output; where it is done its bytes are the trace, and every level is good
-pub record Done (capture : List ℕ) (x : Conversion) : Type 0 where
-  pub within : x.bytes ≤ length x.out
-  pub trace : x.number ≡ 0 → take x.bytes x.out ≡ trace_of capture
-  pub size : x.number ≡ 0 → x.bytes ≡ length (trace_of capture)
-  pub good : x.number ≡ 0 → has_bad (frames_of capture) ≡ false
+-- the length told lies within the output, what stands up to it is the trace, and every level is good
+pub record Done (capture : List ℕ) (bytes : ℕ) (out : List ℕ) : Type 0 where
+  pub within : bytes ≤ length out
+  pub trace : take bytes out ≡ trace_of capture
+  pub size : bytes ≡ length (trace_of capture)
+  pub good : has_bad (frames_of capture) ≡ false
 
--- a refusal has a number above 0
-refused : (capture out : List ℕ) (n frame : ℕ) → 0 < n → Done capture (refusal n frame out)
-refused capture out n frame h = record {
-  within = omega arith;
-  trace = λ z. absurd (omega (arith, z));
-  size = λ z. absurd (omega (arith, z));
-  good = λ z. absurd (omega (arith, z));
-}
+module _ (capture : List ℕ) (bytes : ℕ) (left : List ℕ) where
+  done : (out : List ℕ) → has_bad (frames_of capture) ≡ false → conversion (Ok bytes) left ≡ conversion_to (trace_of capture) out → Done capture bytes left
+  done out good e =
+      let t = trace_of capture in
+      let a : (conversion (Ok bytes) left).answer ≡ Ok (length t) = ap (λ (x : Conversion). x.answer) e in
+      let n : bytes ≡ length t = cc a in
+      let l : left ≡ t ++ drop (length t) out = ap (λ (x : Conversion). x.out) e in
+      record {
+        within = rw (l, n) (rw length-append (omega arith));
+        trace = rw (l, n) (take_at t (drop (length t) out) (length t) refl);
+        size = n;
+        good = good;
+      }
 
-done : (capture out : List ℕ) → Done capture (conversion_of capture out)
-unfolding conversion_of
-done capture out =
-    let t = trace_of capture in
-    pick_elim (Done capture) (eqb (length capture % frame_bytes) 0)
-    (λ e.
-    pick_elim (Done capture) (has_bad (frames_of capture)) (λ f. refused capture out 6 (first_bad (frames_of capture)) (omega arith))
-    (λ good.
-    pick_elim (Done capture) (ltb (length out) (length t)) (λ f. refused capture out 13 0 (omega arith))
-    (λ f. record {
-      within = rw length-append (omega arith);
-      trace = λ z. take_at t (drop (length t) out) (length t) refl;
-      size = λ z. refl;
-      good = λ z. good;
-    })))
-    (λ e. refused capture out 12 0 (omega arith))
+  refused : (why : Refusal) (out : List ℕ) → conversion (Ok bytes) left ≡ refusal why out → Done capture bytes left
+  refused why out e =
+      let a : (conversion (Ok bytes) left).answer ≡ Err why = ap (λ (x : Conversion). x.answer) e in
+      absurd (cc a)
 
--- of what `convert` returned and left
-pub made_done : (capture out : List ℕ) {r : Converted} {left : List ℕ} → Made capture out r left → Done capture (conversion r.number r.bytes r.frame left)
-made_done capture out made = subst (Done capture) (sym made) (done capture out)
+  -- of what `convert` returned and left
+  pub made_done : (out : List ℕ) → Made capture out (Ok bytes) left → Done capture bytes left
+  unfolding conversion_of
+  made_done out made =
+      let P : Conversion → Type 0 = λ x. conversion (Ok bytes) left ≡ x → Done capture bytes left in
+      pick_elim P (eqb (length capture % frame_bytes) 0)
+      (λ e.
+      pick_elim P (has_bad (frames_of capture)) (λ f. refused (BadLevel (first_bad (frames_of capture))) out)
+      (λ good. pick_elim P (ltb (length out) (length (trace_of capture))) (λ f. refused NoRoom out) (λ f. done out good)))
+      (λ e. refused NotFrames out)
+      made

@@ -15,7 +15,7 @@ use Rattle.captures.specs.Captures.{first_bad, frames_of, has_bad, is_bad, recor
 use Rattle.captures.specs.Repeats.{Fit, more as fit_more, Repeat, expand, joined}
 use Rattle.captures.specs.Written.{Frame, largest_repeat}
 use Rattle.captures.proofs.Fewest.{expand_joined, fit_joined}
-use Rattle.captures.proofs.Scan.{frames_told}
+use Rattle.captures.proofs.Joins.{frames_told}
 use Rattle.captures.proofs.Written.{Narrow}
 
 pub data Levels : List Frame → Type 0 where

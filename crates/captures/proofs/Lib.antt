@@ -1,11 +1,15 @@
-pub mod Causes
+pub mod Arrays
+pub mod Checks
 pub mod Done
 pub mod Fewest
+pub mod Joins
 pub mod Levels
 pub mod Lossless
 pub mod Nines
+pub mod Places
 pub mod ReadBack
-pub mod Scan
+pub mod Sizes
 pub mod Theorems
 pub mod Worked
 pub mod Written
+pub mod Wrote

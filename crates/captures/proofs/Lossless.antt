@@ -8,7 +8,7 @@ use lib.Seq.{drop-drop, get_or-drop, take-suc}
 use Rattle.records.specs.Records.{gate_bytes, input_bytes, number_at}
 use Rattle.captures.specs.Captures.{frame_at, frame_bytes, frames_of}
 use Rattle.captures.specs.Written.{bytes, captured, level_bytes}
-use Rattle.captures.proofs.Scan.{rest, rest_more, rest_none}
+use Rattle.captures.proofs.Arrays.{rest, rest_more, rest_none}
 
 module _ (t : List ℕ) (fits : (i : ℕ) → get_or t i 0 < 256) where
   -- the bytes of a number that is read are those it is read from

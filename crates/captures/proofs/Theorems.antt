@@ -6,8 +6,8 @@ use mathlib.Core.List.{List}
 use mathlib.Core.Option.{some}
 use mathlib.Core.Path.{◌≡◌, refl, ap, subst, ◌∙◌}
 use lib.ListN.{length, get_or, take}
+use Rattle.std.proofs.Common.{Ok}
 use Rattle.records.specs.Records.{repeat_bytes}
-use Rattle.captures.specs.declared.Converted.{Converted}
 use Rattle.captures.specs.Captures.{frame_bytes, frames_of, has_bad, records_of, same_frame, trace_of}
 use Rattle.captures.specs.ReadBack.{repeats_from, repeats_in}
 use Rattle.captures.specs.Repeats.{Fit, NoLongerFirst, Repeat, expand, joined}
@@ -19,7 +19,7 @@ use Rattle.captures.proofs.Fewest.{expand_joined, fewest, longest_first}
 use Rattle.captures.proofs.Lossless.{captured_frames}
 use Rattle.captures.proofs.Levels.{good_joined}
 use Rattle.captures.proofs.ReadBack.{read_fits, written_read}
-use Rattle.captures.proofs.Scan.{frames_told}
+use Rattle.captures.proofs.Joins.{frames_told}
 
 -- ---- of frames, for every largest repeat
 
@@ -67,10 +67,10 @@ module _ (capture : List ℕ) where
 pub convert_contract : convert_reads.Learnt ≡ (λ κs a r s. Made a.0.now a.1.0.now r s.1.0.now)
 convert_contract = refl
 
-module _ (capture out left : List ℕ) (r : Converted) (made : Made capture out r left) (done : r.number ≡ 0) where
+module _ (capture out left : List ℕ) (bytes : ℕ) (made : Made capture out (Ok bytes) left) where
   -- what it wrote, up to the length that it told, is read back as the frames
-  pub convert_back : (repeats_in (take r.bytes left) ≡ some (records_of capture)) × (expand (records_of capture) ≡ frames_of capture)
+  pub convert_back : (repeats_in (take bytes left) ≡ some (records_of capture)) × (expand (records_of capture) ≡ frames_of capture)
   convert_back =
-      let d = made_done capture out made in
-      let b = converted_back capture (d.good done) in
-      (ap repeats_in (d.trace done) ∙ b.0, b.1)
+      let d = made_done capture bytes left out made in
+      let b = converted_back capture d.good in
+      (ap repeats_in d.trace ∙ b.0, b.1)

@@ -11,12 +11,12 @@ use Rattle.lists.specs.Table.{tabulate, table_from}
 use Rattle.lists.proofs.Rows.{row_right}
 use Rattle.lines.specs.Lines.{bad_levels}
 use Rattle.records.specs.Records.{next_at, number_at, payload_at, record_at, repeat_bytes, ticks_at}
-use Rattle.captures.specs.Captures.{Conversion, conversion_of, first_bad, frame_at, frames_of, records_of, same_frame, trace_of}
+use Rattle.captures.specs.Captures.{Conversion, conversion_of, first_bad, frame_at, frame_told, frames_of, length_told, records_of, same_frame, status_of, trace_of}
 use Rattle.captures.specs.ReadBack.{before, repeats_by, repeats_from, repeats_in}
 use Rattle.captures.specs.Repeats.{expand, Repeat, repeat, joined, joined_from}
 use Rattle.captures.specs.Written.{Frame, bytes, captured, frame, largest_repeat, level_bytes, tick_record, written}
 use Rattle.captures.proofs.Fewest.{full_first, one_repeat}
-use Rattle.captures.proofs.Scan.{frames_told}
+use Rattle.captures.proofs.Joins.{frames_told}
 
 -- frames: all low; input 0 and gate 0; input 0 alone; every line high; input 54; gate 12
 abbrev low : List ℕ
@@ -45,7 +45,7 @@ room n = replicate n 0xAA
 abbrev gives : List ℕ → List ℕ → ℕ → ℕ → ℕ → List ℕ → List Row
 gives capture out number length₀ frame left =
     let x : Conversion = conversion_of capture out in
-    row number x.number ∷ row length₀ x.bytes ∷ row frame x.frame ∷ row (length left) (length x.out)
+    row number (status_of x.answer) ∷ row length₀ (length_told x.answer) ∷ row frame (frame_told x.answer) ∷ row (length left) (length x.out)
     ∷ tabulate (length left) (λ i. row (get_or left i 0x100) (get_or x.out i 0x200))
 
 -- an empty capture is good, whatever the output

@@ -3,12 +3,12 @@ use Prim.Native.Nat.{ℕ, zero, suc, ◌+◌, ◌-◌, ◌*◌, ◌/◌, ◌%◌
 use native.Mathlib.Nat.{add_assoc, add-zero, div-add-mod', div-lt_iff_lt-mul, pow-suc}
 use native.Mathlib.Omega.{arith}
 use mathlib.Core.Bool.{false}
-use mathlib.Core.List.{List, [], ◌∷◌, ◌++◌, append_assoc, append-nil}
+use mathlib.Core.List.{List, [], ◌∷◌, ◌++◌, append_assoc}
 use mathlib.Core.Path.{◌≡◌, refl, sym, ap, ◌∙◌}
 use borrow.Author.Tests.{ne_eqb, le-ltb}
 use lib.Dec.{eqb, lit<}
-use lib.ListN.{length, get_or, take, drop, drop_of_length-le, length-append}
-use lib.Seq.{get_or-append-add, get_or_at, take_all}
+use lib.ListN.{length, get_or, length-append}
+use lib.Seq.{get_or-append-add, get_or_at}
 use Rattle.records.specs.declared.Record.TheVariants.{AtEnd}
 use Rattle.records.specs.Records.{number_at, next_at, ticks_at, payload_at, record_at}
 use Rattle.captures.specs.Repeats.{Repeat}
@@ -126,10 +126,6 @@ next_read_at p r rest = rw add-zero at (next_behind p (record_bytes r ++ rest) 0
 pub end_read : (p : List ℕ) → record_at p (length p) ≡ AtEnd
 unfolding record_at
 end_read p = let e : length p - length p ≡ 0 = omega arith in rw e
-
--- bytes copied over as many
-pub copied : (r d : List ℕ) → length d ≤ length r → take (length r) r ++ drop (length r) d ≡ r
-copied r d h = rw (take_all (length r) r (omega arith), drop_of_length-le d h) (append-nil r)
 
 -- ---- a trace of records
 

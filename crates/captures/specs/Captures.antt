@@ -1,9 +1,11 @@
 -- Document 02, CR 2: a capture is "nine-byte frames, one a tick, in the byte order of tag 0x01: 7 bytes of inputs, 2 of gates".
-use Rattle.std.specs.Prelude.{ℕ, ◌+◌, ◌*◌, ◌/◌, ◌%◌, Bool, ◌&&◌, List, [], ◌∷◌, ◌++◌, eqb, ltb, length, drop}
+use Rattle.std.specs.Prelude.{ℕ, ◌+◌, ◌*◌, ◌/◌, ◌%◌, Bool, ◌&&◌, List, [], ◌∷◌, ◌++◌, eqb, ltb, length, drop, Result, Ok, Err}
 use Rattle.bools.specs.Pick.{pick}
 use Rattle.lists.specs.Table.{tabulate}
 use Rattle.lines.specs.Lines.{bad_levels}
 use Rattle.records.specs.Records.{gate_bytes, input_bytes, number_at}
+use Rattle.captures.specs.declared.Refusal.{Refusal}
+use Rattle.captures.specs.declared.Refusal.TheVariants.{NotFrames, BadLevel, NoRoom}
 use Rattle.captures.specs.Repeats.{Repeat, joined}
 use Rattle.captures.specs.Written.{Frame, frame, largest_repeat, written}
 
@@ -38,16 +40,13 @@ records_of capture = joined same_frame largest_repeat (frames_of capture)
 unfoldable pub trace_of : List ℕ → List ℕ
 trace_of capture = written (records_of capture)
 
--- what a conversion answers and leaves: the number of a refusal, 0 where it is done; "the trace's length in bytes", 0 where it is refused;
--- of refusal 6 the frame, else 0; the output
+-- what a conversion answers, "the trace's length in bytes" or why it is refused, and leaves: the output
 pub record Conversion : Type 0 where
-  pub number : ℕ
-  pub bytes : ℕ
-  pub frame : ℕ
+  pub answer : Result ℕ Refusal
   pub out : List ℕ
 
-abbrev pub conversion : ℕ → ℕ → ℕ → List ℕ → Conversion
-conversion number bytes frame out = record { number = number; bytes = bytes; frame = frame; out = out }
+abbrev pub conversion : Result ℕ Refusal → List ℕ → Conversion
+conversion answer out = record { answer = answer; out = out }
 
 -- "not a multiple of nine, 12"; "a bad level, 6", which is cause 6 of document 01; "output too short, 13"
 abbrev pub not_frames : ℕ
@@ -59,18 +58,42 @@ bad_level = 6
 abbrev pub no_room : ℕ
 no_room = 13
 
--- "A refusal returns its number .. and leaves the output as it was."
-abbrev pub refusal : ℕ → ℕ → List ℕ → Conversion
-refusal number frame out = conversion number 0 frame out
+-- "A refusal returns its number"
+abbrev pub number_of : Refusal → ℕ
+number_of NotFrames = not_frames
+number_of (BadLevel frame) = bad_level
+number_of NoRoom = no_room
+
+-- ".. and leaves the output as it was."
+abbrev pub refusal : Refusal → List ℕ → Conversion
+refusal why out = conversion (Err why) out
 
 -- "Bytes past the trace stay."
 abbrev pub conversion_to : List ℕ → List ℕ → Conversion
-conversion_to trace out = conversion 0 (length trace) 0 (trace ++ drop (length trace) out)
+conversion_to trace out = conversion (Ok (length trace)) (trace ++ drop (length trace) out)
 
 -- "Checks: capture length not a multiple of nine, 12, first; a bad level, 6; output too short, 13, last."
 unfoldable pub conversion_of : List ℕ → List ℕ → Conversion
 conversion_of capture out =
     pick (eqb (length capture % frame_bytes) 0)
-    (pick (has_bad (frames_of capture)) (refusal bad_level (first_bad (frames_of capture)) out)
-    (pick (ltb (length out) (length (trace_of capture))) (refusal no_room 0 out) (conversion_to (trace_of capture) out)))
-    (refusal not_frames 0 out)
+    (pick (has_bad (frames_of capture)) (refusal (BadLevel (first_bad (frames_of capture))) out)
+    (pick (ltb (length out) (length (trace_of capture))) (refusal NoRoom out) (conversion_to (trace_of capture) out)))
+    (refusal NotFrames out)
+
+-- an answer in numbers: of the refusal, 0 where there is none; the length, 0 where it is refused; of refusal 6 the frame, else 0
+abbrev pub status_of : Result ℕ Refusal → ℕ
+status_of (Ok bytes) = 0
+status_of (Err why) = number_of why
+
+abbrev pub length_told : Result ℕ Refusal → ℕ
+length_told (Ok bytes) = bytes
+length_told (Err why) = 0
+
+abbrev pub frame_in : Refusal → ℕ
+frame_in NotFrames = 0
+frame_in (BadLevel frame) = frame
+frame_in NoRoom = 0
+
+abbrev pub frame_told : Result ℕ Refusal → ℕ
+frame_told (Ok bytes) = 0
+frame_told (Err why) = frame_in why

@@ -3,5 +3,5 @@ pub mod Nine
 pub mod ReadBack
 pub mod Repeats
 pub mod Returned
-pub mod Scanned
+pub mod Sentences
 pub mod Written

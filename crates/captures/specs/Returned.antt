@@ -1,8 +1,8 @@
 -- What the contract of `convert` says, for theorems about the code.
-use Rattle.std.specs.Prelude.{ℕ, List, ◌≡◌}
-use Rattle.captures.specs.declared.Converted.{Converted}
+use Rattle.std.specs.Prelude.{ℕ, List, ◌≡◌, Result}
+use Rattle.captures.specs.declared.Refusal.{Refusal}
 use Rattle.captures.specs.Captures.{conversion, conversion_of}
 
 -- a `convert` of a capture returned r and left this output; `convert_contract` in proofs/Theorems.antt shows that this is its contract
-abbrev pub Made : List ℕ → List ℕ → Converted → List ℕ → Type 0
-Made capture out r left = conversion r.number r.bytes r.frame left ≡ conversion_of capture out
+abbrev pub Made : List ℕ → List ℕ → Result ℕ Refusal → List ℕ → Type 0
+Made capture out r left = conversion r left ≡ conversion_of capture out

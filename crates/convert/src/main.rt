@@ -9,18 +9,11 @@ use std::io::Stderr;
 // Nine bytes a frame.
 const LIMIT: usize = 1_179_648;
 
-// Room for the longest capture, and for one byte more, which tells that there are too many.
-fn capture_space() -> [u8; 1_179_649]
-    ensures { 1_179_649 ≡ length result }
+// Room for so many bytes.
+fn space<const N: usize>() -> [u8; N]
+    ensures { N ≡ length result }
 {
-    [0; 1_179_649]
-}
-
-// Room for the trace of the longest capture, whatever it holds: 14 bytes a frame.
-fn trace_space() -> [u8; 1_835_008]
-    ensures { 1_835_008 ≡ length result }
-{
-    [0; 1_835_008]
+    [0; N]
 }
 
 // Words on standard error.
@@ -28,31 +21,10 @@ fn tell(stderr: &Stderr, words: &[u8]) {
     let _ = stderr.write_all(words);
 }
 
-// A refusal as a sentence, with its number; frames are counted from 0.
-fn tell_refusal(stderr: &Stderr, number: u16, frame: usize) {
-    if number == 12 {
-        tell(
-            stderr,
-            b"convert: the capture is not of whole frames of nine bytes (12)\n",
-        );
-        return;
-    }
-    if number == 6 {
-        tell(stderr, b"convert: frame ");
-        let _ = stderr.print(frame);
-        tell(stderr, b": a line that does not exist (6)\n");
-        return;
-    }
-    // the room for a trace is enough for every capture that is read, so this is not met
-    tell(
-        stderr,
-        b"convert: the output is shorter than the trace (13)\n",
-    );
-}
-
 fn main(rt: HostRuntime) {
     let stderr = rt.stderr();
-    let mut buf = capture_space();
+    // the longest capture and one byte more, which tells that there are too many
+    let mut buf = space::<1_179_649>();
     let Ok(n) = standard_input::read_input(&mut rt.stdin(), &mut buf) else {
         tell(&stderr, b"convert: cannot read standard input\n");
         return;
@@ -64,14 +36,17 @@ fn main(rt: HostRuntime) {
         );
         return;
     }
-    let mut out = trace_space();
-    let made = captures::convert(&buf[..n], &mut out);
-    if made.number != 0 {
-        tell_refusal(&stderr, made.number, made.frame);
-        return;
-    }
-    let bytes = made.bytes;
-    if rt.write_all(&out[..bytes]).is_err() {
-        tell(&stderr, b"convert: cannot write standard output\n");
+    // the trace of the longest capture, whatever it holds: 14 bytes a frame
+    let mut out = space::<1_835_008>();
+    match captures::convert(&buf[..n], &mut out) {
+        Ok(bytes) => {
+            if rt.write_all(&out[..bytes]).is_err() {
+                tell(&stderr, b"convert: cannot write standard output\n");
+            }
+        }
+        // the room for a trace is enough for every capture that is read, so `NoRoom` is not met
+        Err(why) => {
+            let _ = eprintln!(rt; "convert: {why}");
+        }
     }
 }

@@ -1,7 +1,7 @@
 -- What `mirvacula_convert` gives programs in C and Rust: a conversion of document 02, CR 2, as numbers.
 use Rattle.std.specs.Prelude.{ℕ, ◌%◌, List, [], ◌∷◌, eqb, length}
 use Rattle.bools.specs.Pick.{pick}
-use Rattle.captures.specs.Captures.{Conversion, conversion_of, frame_bytes, not_frames}
+use Rattle.captures.specs.Captures.{Conversion, conversion_of, frame_bytes, frame_told, length_told, not_frames, status_of}
 use Rattle.lent.specs.Lent.{bad_buffer}
 
 -- the trace's length in bytes, and the frame of refusal 6
@@ -18,7 +18,7 @@ abbrev pub answered : ℕ → List ℕ → List ℕ → Answered
 answered status out answer = record { status = status; out = out; answer = answer }
 
 abbrev pub answered_by : Conversion → Answered
-answered_by x = answered x.number x.out (x.bytes ∷ x.frame ∷ [])
+answered_by x = answered (status_of x.answer) x.out (length_told x.answer ∷ frame_told x.answer ∷ [])
 
 -- nothing is done where the answer has the wrong length: "not a multiple of nine, 12, first"
 abbrev pub unanswered : ℕ → ℕ

@@ -4,6 +4,7 @@
 
 ghost use Rattle.std.specs.Prelude.{◌++◌, ◌≡◌, eqb, ◌<◌, get_or, length};
 ghost use Rattle.bools.specs.Pick.{pick};
+ghost use Rattle.captures.specs.Captures.{frame_in};
 ghost use Rattle.device.specs.State.{machine};
 ghost use Rattle.mirvacula.specs.Converting.{answered, convert_of, unanswered};
 ghost use Rattle.lent.specs.Lent.{bad_buffer};
@@ -15,6 +16,7 @@ ghost use Rattle.records.specs.declared.Stop.TheVariants.{Memory};
 ghost use Rattle.records.specs.Stops.{stop_number};
 ghost use Rattle.trace.specs.Run.{run as run_run};
 
+use captures::Refusal;
 use device::Crate;
 use interlocks::Scan;
 use records::Stop;
@@ -158,8 +160,18 @@ fn unanswered_code(bytes: usize) -> u16
     if bytes % 9 == 0 { 255 } else { 12 }
 }
 
-// A capture becomes a trace. The answer is the length of the trace in bytes and, of a refusal by 6, the frame. Nothing is done where the answer is
-// not of 2 numbers.
+// The frame that the answer has: that of refusal 6, else 0.
+fn frame_in(why: Refusal) -> u64
+    ensures { result ≡ frame_in why }
+{
+    match why {
+        Refusal::BadLevel { frame } => frame as u64,
+        Refusal::NotFrames | Refusal::NoRoom => 0,
+    }
+}
+
+// A capture becomes a trace. The answer is the length of the trace in bytes and, of a refusal by 6, the frame: numbers, as the C interface has no
+// enums with fields. Nothing is done where the answer is not of 2 numbers.
 #[unsafe(no_mangle)]
 pub extern "C" fn mirvacula_convert(capture: &[u8], out: &mut [u8], answer: &mut [u64]) -> u16
     ensures { answered result out.new answer.new ≡ convert_of capture.now out.old answer.old }
@@ -167,10 +179,13 @@ pub extern "C" fn mirvacula_convert(capture: &[u8], out: &mut [u8], answer: &mut
     if answer.len() != 2 {
         return unanswered_code(capture.len());
     }
-    let made = captures::convert(capture, out);
-    answer[0] = made.bytes as u64;
-    answer[1] = made.frame as u64;
-    made.number
+    let (number, length, frame) = match captures::convert(capture, out) {
+        Ok(bytes) => (0, bytes as u64, 0),
+        Err(why) => (why.number(), 0, frame_in(why)),
+    };
+    answer[0] = length;
+    answer[1] = frame;
+    number
 }
 
 // The word of an input register with these selections and this gate.

@@ -4,13 +4,13 @@ use mathlib.Core.Bool.{true, false}
 use mathlib.Core.List.{List, [], ◌∷◌, map}
 use mathlib.Core.Path.{◌≡◌, refl, sym, ap, subst, ◌∙◌}
 use lib.ListN.{length, take}
+use Rattle.std.proofs.Common.{Ok}
 use Rattle.loader.specs.Memory.{is_whole}
 use Rattle.device.specs.State.{Machine, machine}
 use Rattle.registers.specs.Calls.{Call, from, step}
 use Rattle.records.specs.declared.Stop.TheVariants.{End}
 use Rattle.trace.specs.declared.Progress.{Progress}
 use Rattle.trace.specs.Run.{machine_of, report_of, run, run_of, run_on}
-use Rattle.captures.specs.declared.Converted.{Converted}
 use Rattle.captures.specs.Captures.{frames_of, has_bad, records_of, trace_of}
 use Rattle.captures.specs.Repeats.{expand}
 use Rattle.captures.specs.Returned.{Made}
@@ -46,15 +46,15 @@ module _ (capture : List ℕ) (budget : ℕ) (room : length (frames_of capture) 
       ∙ ap (λ (xs : List Frame). run_on (from m (map tick_of xs)) (report_of End (length (trace_of capture)) (length xs) (length (records_of capture)) 0) false) back
 
   -- of the code: p is what `run` returned, and memory what it left, on the bytes that `convert` wrote
-  module _ (out left : List ℕ) (r : Converted) (made : Made capture out r left) (done : r.number ≡ 0)
-      (p : Progress) (memory : List ℕ) (ran : Ran m (take r.bytes left) budget p memory) where
-    pub convert_runs : run p memory ≡ run_on (from m (capture_ticks capture)) (report_of End r.bytes (length (frames_of capture)) (length (records_of capture)) 0) false
+  module _ (out left : List ℕ) (bytes : ℕ) (made : Made capture out (Ok bytes) left)
+      (p : Progress) (memory : List ℕ) (ran : Ran m (take bytes left) budget p memory) where
+    pub convert_runs : run p memory ≡ run_on (from m (capture_ticks capture)) (report_of End bytes (length (frames_of capture)) (length (records_of capture)) 0) false
     convert_runs =
-        let d = made_done capture out made in
+        let d = made_done capture bytes left out made in
         ran
-        ∙ ap (λ (t : List ℕ). run_of t budget m) (d.trace done)
-        ∙ trace_runs (d.good done)
-        ∙ ap (λ (n : ℕ). run_on (from m (capture_ticks capture)) (report_of End n (length (frames_of capture)) (length (records_of capture)) 0) false) (sym (d.size done))
+        ∙ ap (λ (t : List ℕ). run_of t budget m) d.trace
+        ∙ trace_runs d.good
+        ∙ ap (λ (n : ℕ). run_on (from m (capture_ticks capture)) (report_of End n (length (frames_of capture)) (length (records_of capture)) 0) false) (sym d.size)
 
     -- crate and memory are those that calls of `tick`, frame by frame, leave
     pub convert_ticks : (n : Machine) → Went m (map calling (capture_ticks capture)) n → machine p.state memory ≡ n

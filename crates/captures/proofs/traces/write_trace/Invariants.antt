@@ -1,12 +1,6 @@
-use Prim.Native.Nat.{◌-◌, ◌/◌, ◌≤◌}
-use lib.ListN.{length}
-use Rattle.captures.specs.Captures.{trace_of}
-use Rattle.captures.specs.Nine.{frame_of}
-use Rattle.captures.proofs.Scan.{Wrote, coming}
+use Rattle.captures.specs.Nine.{records_left, trace_in}
+use Rattle.captures.proofs.Wrote.{Wrote}
 use Rattle.captures.proofs.traces.write_trace.Given as goal
 
-abbrev pub invariant-loop-i : goal.invariant-loop-i
-invariant-loop-i l = (l.i ≤ length l.capture / 9) × Wrote (trace_of l.capture) l.fn.out l.at (coming l.capture (frame_of l.x) l.times l.i) l.out
-
-abbrev pub decreases-loop-i : goal.decreases-loop-i
-decreases-loop-i l = length l.capture / 9 - l.i
+abbrev pub invariant-loop-repeat : goal.invariant-loop-repeat
+invariant-loop-repeat l = Wrote (trace_in l.frames) l.fn.out l.at (records_left l.repeat-iterator) l.out
