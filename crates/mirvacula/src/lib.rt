@@ -188,12 +188,15 @@ pub extern "C" fn mirvacula_convert(capture: &[u8], out: &mut [u8], answer: &mut
     number
 }
 
+// The answer where there is no word: the C interface needs a number, and this one is above every word of 16 bits.
+const NO_WORD: u32 = 0x10000;
+
 // The word of an input register with these selections and this gate.
 #[unsafe(no_mangle)]
 pub extern "C" fn mirvacula_input_word(up: u16, down: u16, gate: u16) -> u32
     ensures { result ≡ input_word_of up down gate }
 {
-    patching::input_word(up, down, gate)
+    patching::input_word(up, down, gate).map_or(NO_WORD, u32::from)
 }
 
 // The word of a counter's group register with this group for the counter.
@@ -201,7 +204,7 @@ pub extern "C" fn mirvacula_input_word(up: u16, down: u16, gate: u16) -> u32
 pub extern "C" fn mirvacula_group_word(word: u16, counter: u16, group: u16) -> u32
     ensures { result ≡ group_word_of word counter group }
 {
-    patching::group_word(word, counter, group)
+    patching::group_word(word, counter, group).map_or(NO_WORD, u32::from)
 }
 
 // Starts a sliding sum on a lent ring, its state in lent words.

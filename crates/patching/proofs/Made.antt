@@ -1,10 +1,8 @@
--- The answers where every number fits, and a field that is put above a smaller word.
-use Prim.Native.Nat.{ℕ, ◌+◌, ◌*◌, ◌/◌, ◌^◌, ◌<◌}
-use native.Mathlib.Nat.{div-eq_of_lt, lt_of_lt_of_le, mod-eq_of_lt}
+-- The answers where every number fits, and the order in which the fields are put.
+use Prim.Native.Nat.{ℕ, ◌<◌}
 use native.Mathlib.Omega.{arith}
 use mathlib.Core.Path.{◌≡◌}
 use borrow.Author.Tests.{lt-ltb}
-use lib.Pow.{pow_mono}
 use Rattle.words.specs.Word.{put_of}
 use Rattle.patching.specs.Patching.{counter_count, gate_values, group_count, grouped, group_word_of, input_word_of, patched, selection_values}
 
@@ -16,7 +14,6 @@ pub placed : (word counter group : ℕ) → counter < counter_count → group < 
 unfolding group_word_of
 placed word counter group c g = rw (lt-ltb counter counter_count c, lt-ltb group group_count g)
 
-pub put_above : (w at width v : ℕ) → w < 2 ^ at → v < 2 ^ width → put_of w at width v ≡ v * 2 ^ at + w
-put_above w at width v h l =
-    let none : w / 2 ^ (at + width) ≡ 0 = div-eq_of_lt (lt_of_lt_of_le h (pow_mono (omega arith))) in
-    rw (none, mod-eq_of_lt h, mod-eq_of_lt l) (omega arith)
+-- the three fields put in from the highest down: the word is the same
+pub selected : (up down gate : ℕ) → put_of (put_of (put_of 0 12 4 gate) 6 6 down) 0 6 up ≡ patched up down gate
+selected up down gate = omega arith

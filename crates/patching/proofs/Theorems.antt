@@ -4,15 +4,16 @@ use native.Mathlib.Nat.{mod-eq_of_lt}
 use native.Mathlib.Omega.{arith}
 use mathlib.Core.Bool.{false}
 use mathlib.Core.Logic.{inl}
-use mathlib.Core.Path.{◌≡◌, refl, ap, ◌∙◌}
+use mathlib.Core.Path.{◌≡◌, refl, ◌∙◌}
 use lib.Dec.{lit<}
+use Rattle.std.specs.Prelude.{unwrap_or}
 use Rattle.words.specs.Word.{field_of, nibble, put_of}
 use Rattle.words.proofs.Fields.{put_lt}
 use Rattle.words.proofs.Theorems.{other_nibble, put_then_other, put_then_same}
 use Rattle.patching.specs.Patching.{counter_count, gate_values, group_count, group_place, group_word_of, input_word_of, is_grouping, is_patch, no_word, selection_values}
 use Rattle.patching.proofs.input_word.Reads as input_word_reads
 use Rattle.patching.proofs.group_word.Reads as group_word_reads
-use Rattle.patching.proofs.Made.{made, placed, put_above}
+use Rattle.patching.proofs.Made.{made, placed}
 
 -- "UP in bits 5-0, DOWN in 11-6, GATE in 15-12": they are the selections and the gate that were asked for
 pub input_up : (up down gate : ℕ) → up < selection_values → down < selection_values → gate < gate_values → field_of (input_word_of up down gate) 0 6 ≡ up
@@ -41,13 +42,7 @@ input_is_word up down gate u d g =
 
 -- as a number
 pub input_number : (up down gate : ℕ) → up < selection_values → down < selection_values → gate < gate_values → input_word_of up down gate ≡ gate * 2 ^ 12 + down * 2 ^ 6 + up
-input_number up down gate u d g =
-    let first : put_of 0 0 6 up ≡ up = put_above 0 0 6 up (lit< tt) u ∙ omega arith in
-    let second : put_of up 6 6 down ≡ down * 2 ^ 6 + up = put_above up 6 6 down u d in
-    made up down gate u d g
-    ∙ ap (λ (w : ℕ). put_of w 12 4 gate) (ap (λ (w : ℕ). put_of w 6 6 down) first ∙ second)
-    ∙ put_above (down * 2 ^ 6 + up) 12 4 gate (omega arith) g
-    ∙ omega arith
+input_number up down gate u d g = made up down gate u d g ∙ omega arith
 
 -- every word of 16 bits is the word of its own fields: no patching is out of reach
 pub input_of_fields : (w : ℕ) → w < 2 ^ 16 → input_word_of (field_of w 0 6) (field_of w 6 6) (field_of w 12 4) ≡ w
@@ -83,8 +78,8 @@ unfolding group_word_of
 group_none word counter group e = rw e
 
 -- what a caller learns from `input_word` and `group_word` is that they answer these words: a holds the arguments
-pub input_word_contract : input_word_reads.Learnt ≡ (λ κs a r s. r ≡ input_word_of a.0 a.1.0 a.1.1.0)
+pub input_word_contract : input_word_reads.Learnt ≡ (λ κs a r s. unwrap_or r no_word ≡ input_word_of a.0 a.1.0 a.1.1.0)
 input_word_contract = refl
 
-pub group_word_contract : group_word_reads.Learnt ≡ (λ κs a r s. r ≡ group_word_of a.0 a.1.0 a.1.1.0)
+pub group_word_contract : group_word_reads.Learnt ≡ (λ κs a r s. unwrap_or r no_word ≡ group_word_of a.0 a.1.0 a.1.1.0)
 group_word_contract = refl
