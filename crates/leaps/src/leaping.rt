@@ -6,6 +6,7 @@ ghost use Rattle.leaps.specs.Leap.{quiet as leap_quiet};
 use device::{Common, Crate, Rest};
 
 // The phases move; queue and loader stay.
+#[tactic(auto, unfolding(crate::specs::Leap::leap_common))]
 fn leap_common(mut cm: Common, k: u32) -> Common
     ensures { result ≡ leap_common k cm }
 {
@@ -16,6 +17,7 @@ fn leap_common(mut cm: Common, k: u32) -> Common
 }
 
 // The watchdogs move, and the gate levels are the tick's. There are as many raw counts as inputs.
+#[tactic(auto, unfolding(crate::specs::Leap::leap_rest))]
 fn leap_rest(mut rest: Rest, k: u32, gatelevels: u16) -> Rest
     ensures { (result ≡ leap_rest k gatelevels rest) × (length rest.rawcounts ≡ 54) }
 {
@@ -53,6 +55,7 @@ pub fn leap(s: Crate, k: u32, gatelevels: u16) -> Crate
 }
 
 // Whether k ticks at these levels leave all but test signals, counts, watchdogs and timers as they are.
+#[tactic(auto, unfolding(crate::specs::Leap::quiet))]
 fn quiet(k: u32, s: Crate, inputs: u64, gatelevels: u16) -> bool
     ensures { result ≡ leap_quiet k s inputs gatelevels }
 {

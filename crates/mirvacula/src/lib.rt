@@ -63,11 +63,9 @@ fn put_image(out: &mut [u16], state: Crate, mem: &[u16])
     requires { length out.old ≡ image_words }
     ensures { out.new ≡ image_of (machine state mem.now) }
 {
-    let mut k: u16 = 0;
-    while k < 0x1400 {
+    for k in 0..0x1400u16 {
         let read = registers::read(state, mem, 0x0600 + k);
         out[k as usize] = read.word;
-        k += 1;
     }
 }
 
@@ -86,10 +84,8 @@ fn put_scan(out: &mut [u16], scan: Scan)
 {
     let levels = scan.levels;
     let words = scan.words;
-    let mut k: usize = 0;
-    while k < 12 {
+    for k in 0..12 {
         out[k] = scan_number(levels, words, k);
-        k += 1;
     }
 }
 

@@ -10,10 +10,8 @@ fn number_at(t: &[u8], at: usize, n: usize) -> u64
     ensures { (result ≡ number_at t.now at n) × (result < 2 ^ (8 * n)) }
 {
     let mut v = 0u64;
-    let mut k = 0usize;
-    while k < n {
+    for k in 0..n {
         v = v * 256 + (t[at + k] as u64);
-        k += 1;
     }
     v
 }
@@ -27,6 +25,7 @@ fn word_at(t: &[u8], at: usize) -> u16
 }
 
 // The offset behind a record that stands whole.
+#[tactic(auto, unfolding(crate::specs::Records::next_at))]
 pub fn next_at(t: &[u8], at: usize) -> usize
     requires { next_at t.now at ≤ length t.now }
     ensures { result ≡ next_at t.now at }
@@ -36,6 +35,7 @@ pub fn next_at(t: &[u8], at: usize) -> usize
 }
 
 // The payload of a tick record: a repeat of so many bytes, the inputs, the gates.
+#[tactic(auto, unfolding(crate::specs::Records::ticks_at))]
 fn ticks_at(t: &[u8], at: usize, width: usize) -> Record
     requires { (at + tick_bytes width ≤ length t.now) × (width ≤ 7) }
     ensures { result ≡ ticks_at width t.now at }
@@ -49,6 +49,7 @@ fn ticks_at(t: &[u8], at: usize, width: usize) -> Record
     Record::Ticks(repeat, inputs, gates)
 }
 
+#[tactic(auto, using(bools::proofs::Tests::tests))]
 fn payload_bytes(tag: u8) -> u16
     ensures { result ≡ payload_bytes tag }
 {
@@ -62,6 +63,7 @@ fn is_known(tag: u8) -> bool
 }
 
 // The record of a known tag whose payload stands whole.
+#[tactic(auto, unfolding(crate::specs::Records::payload_at))]
 fn payload_at(tag: u8, t: &[u8], at: usize) -> Record
     requires { at + payload_bytes tag ≤ length t.now }
     ensures { result ≡ payload_at tag t.now at }
@@ -76,6 +78,7 @@ fn payload_at(tag: u8, t: &[u8], at: usize) -> Record
 }
 
 // The record at an offset. Causes in order: header cut, unknown tag, wrong length, payload cut, repeat 0.
+#[tactic(auto, unfolding(crate::specs::Records::record_at))]
 pub fn record_at(t: &[u8], at: usize) -> Record
     ensures { result ≡ record_at t.now at }
 {

@@ -164,6 +164,7 @@ fn run_ticks(
 }
 
 // A write record.
+#[tactic(auto, unfolding(crate::specs::Run::call_in, crate::specs::Run::passes, registers::specs::Calls::from))]
 fn run_write(p: Progress, mem: &mut [u16], t: &[u8], address: u16, word: u16) -> Progress
     requires { Room t.now p.report }
     ensures { run_run result mem.new ≡ call_in t.now (run_run p mem.old) (call_write address word) }
@@ -176,6 +177,7 @@ fn run_write(p: Progress, mem: &mut [u16], t: &[u8], address: u16, word: u16) ->
 }
 
 // A record of an event tag.
+#[tactic(auto, unfolding(crate::specs::Run::call_in, crate::specs::Run::passes, registers::specs::Calls::from))]
 fn run_tag(p: Progress, mem: &[u16], t: &[u8], tag: u32) -> Progress
     requires { Room t.now p.report }
     ensures { run_run result mem.now ≡ call_in t.now (run_run p mem.now) (call_tag tag) }
@@ -217,13 +219,12 @@ pub fn run(state: Crate, mem: &mut [u16], trace: &[u8], budget: u64) -> Progress
     if mem.len() != 16384 {
         return stop_by(p, Stop::Memory);
     }
-    let mut fuel = trace.len() + 1;
-    while 0 < fuel {
+    // every record moves the offset on, so there are no more turns than offsets
+    for _turn in 0..trace.len() + 1 {
         if !p.going {
             return p;
         }
         p = once(p, mem, trace, budget);
-        fuel -= 1;
     }
     p
 }

@@ -39,11 +39,5 @@ offset_bounds-out-k c = omega arith
 pub bounds-out-k : goal.bounds-out-k
 bounds-out-k c = omega (arith, swept_length c.loop-k.invariant)
 
-pub overflow_add-k-in-loop-k : goal.overflow_add-k-in-loop-k
-overflow_add-k-in-loop-k c = omega arith
-
-pub loop-k-smaller : goal.loop-k-smaller
-loop-k-smaller c = omega arith
-
 pub shape_of-out : goal.shape_of-out
 shape_of-out c = swept_length c.loop-k.invariant

@@ -23,11 +23,5 @@ returns c = swept_all c.loop-k.invariant (omega arith)
 pub bounds-out-k : goal.bounds-out-k
 bounds-out-k c = omega (arith, swept_length c.loop-k.invariant)
 
-pub overflow_add-k : goal.overflow_add-k
-overflow_add-k c = omega arith
-
-pub loop-k-smaller : goal.loop-k-smaller
-loop-k-smaller c = omega arith
-
 pub shape_of-out : goal.shape_of-out
 shape_of-out c = swept_length c.loop-k.invariant

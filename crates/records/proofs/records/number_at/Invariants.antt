@@ -1,10 +1,7 @@
-use Prim.Native.Nat.{◌-◌, ◌*◌, ◌^◌, ◌<◌, ◌≤◌}
+use Prim.Native.Nat.{◌*◌, ◌^◌, ◌<◌}
 use mathlib.Core.Path.{◌≡◌}
 use Rattle.records.specs.Records.{number_at}
 use Rattle.records.proofs.records.number_at.Given as goal
 
 abbrev pub invariant-loop-k : goal.invariant-loop-k
-invariant-loop-k l = (l.k ≤ l.n) × (l.v ≡ number_at l.t l.at l.k) × (l.v < 2 ^ (8 * l.k))
-
-abbrev pub decreases-loop-k : goal.decreases-loop-k
-decreases-loop-k l = l.n - l.k
+invariant-loop-k l = (l.v ≡ number_at l.t l.at l.k) × (l.v < 2 ^ (8 * l.k))

@@ -1,4 +1,5 @@
 -- `run` meets its contract: what the turns left make of the run is the same at each turn (`run_on_lem`, `halted_stays`).
+use Prim.Native.Nat.{◌+◌, ◌-◌}
 use native.Mathlib.Omega.{arith}
 use mathlib.Core.Path.{◌≡◌, refl, sym, ◌∙◌}
 use borrow.Author.Tests.{ne_eqb, not-false, not-true}
@@ -15,42 +16,38 @@ returns-then-mem-ne16384 c =
     let a = c.args in
     rw (c.stop_by.ensures, c.go_on-p.ensures, ne_eqb (length a.mem.now) 16384 c.if-mem-ne16384.true)
 
-pub loop-fuel-init : goal.loop-fuel-init
-loop-fuel-init c = (
+pub loop-turn-init : goal.loop-turn-init
+loop-turn-init c =
+    let none : length c.args.trace.now + 1 - 0 ≡ length c.args.trace.now + 1 = omega arith in (
   refl,
   rw c.go_on-p.ensures (record { place = omega arith; passes = omega arith; refusals = omega arith; spent = omega arith }),
-  refl,
+  rw none refl,
 )
 
 pub returns-then-not-p : goal.returns-then-not-p
 returns-then-not-p c =
-    let l = c.loop-fuel in
+    let l = c.loop-turn in
     let a = c.args in
     let halted = not-true l.p.going c.if-not-p.true in
-    sym (halted_stays a.trace.now a.budget l.fuel (run l.p l.mem) halted)
+    sym (halted_stays a.trace.now a.budget (length a.trace.now + 1 - l._turn) (run l.p l.mem) halted)
     ∙ l.invariant.2
     ∙ rw c.go_on-p.ensures (run_begins a.trace.now a.budget (machine a.state a.mem.now) c.if-mem-ne16384.false)
 
-pub loop-fuel-preserved : goal.loop-fuel-preserved
-loop-fuel-preserved c =
-    let l = c.loop-fuel in
+pub loop-turn-preserved : goal.loop-turn-preserved
+loop-turn-preserved c =
+    let l = c.loop-turn in
     let a = c.args in
-    let r = run l.p l.mem in (
+    let r = run l.p l.mem in
+    let left : length a.trace.now + 1 - (l._turn + 1) ≡ length a.trace.now + 1 - l._turn - 1 = omega arith in (
       c.once-p.auto.mem ∙ l.invariant.0,
       rw (← c.once-p.ensures) at (once_sound a.trace.now a.budget r l.invariant.1),
-      rw c.once-p.ensures (run_on_lem a.trace.now a.budget l.fuel r (not-false l.p.going c.if-not-p.false) (omega arith) ∙ l.invariant.2),
+      rw (c.once-p.ensures, left) (run_on_lem a.trace.now a.budget (length a.trace.now + 1 - l._turn) r (not-false l.p.going c.if-not-p.false) (omega arith) ∙ l.invariant.2),
     )
 
 pub returns : goal.returns
 unfolding run_from
 returns c =
-    let l = c.loop-fuel in
+    let l = c.loop-turn in
     let a = c.args in
-    let e : l.fuel ≡ 0 = omega arith in
+    let e : length a.trace.now + 1 - l._turn ≡ 0 = omega arith in
     (rw e at l.invariant.2) ∙ rw c.go_on-p.ensures (run_begins a.trace.now a.budget (machine a.state a.mem.now) c.if-mem-ne16384.false)
-
-pub overflow_sub-fuel : goal.overflow_sub-fuel
-overflow_sub-fuel c = omega arith
-
-pub loop-fuel-smaller : goal.loop-fuel-smaller
-loop-fuel-smaller c = omega arith
