@@ -90,6 +90,7 @@ fn put_scan(out: &mut [u16], scan: Scan)
 }
 
 // A report, an image or a scan of the wrong length; a memory of the wrong length comes first.
+#[tactic(auto, using(bools::proofs::Tests::tests))]
 fn misfit_code(words: usize) -> u16
     ensures { result ≡ pick (eqb words 16384) bad_buffer (stop_number Memory) }
 {
@@ -97,6 +98,7 @@ fn misfit_code(words: usize) -> u16
 }
 
 // Runs a trace from power-up and fills in its report.
+#[tactic(auto, unfolding(crate::specs::Exported::run_on))]
 fn run_and_report(mem: &mut [u16], bytes: &[u8], budget: u64, report: &mut [u64]) -> Progress
     requires { length report.old ≡ report_words }
     ensures { (run_run result mem.new ≡ run_on mem.old bytes.now budget) × (report.new ≡ report_of result.report) }
@@ -111,6 +113,7 @@ fn run_and_report(mem: &mut [u16], bytes: &[u8], budget: u64, report: &mut [u64]
 // Runs a trace from power-up on a lent memory with a budget of ticks. Nothing is done where the report is not of
 // 5 numbers or the image not of 5,120 words.
 #[unsafe(no_mangle)]
+#[tactic(auto, unfolding(crate::specs::Exported::export_of))]
 pub extern "C" fn mirvacula_run(
     mem: &mut [u16],
     bytes: &[u8],
@@ -131,6 +134,7 @@ pub extern "C" fn mirvacula_run(
 // Runs a trace as `mirvacula_run` does and scans the outputs of the crate that it leaves. Nothing is done where the report
 // is not of 5 numbers or the scan not of 12.
 #[unsafe(no_mangle)]
+#[tactic(auto, unfolding(crate::specs::Exported::scan_export_of))]
 pub extern "C" fn mirvacula_scan(
     mem: &mut [u16],
     bytes: &[u8],
@@ -150,6 +154,7 @@ pub extern "C" fn mirvacula_scan(
 }
 
 // An answer of the wrong length; a capture that is not of whole frames comes first.
+#[tactic(auto, using(bools::proofs::Tests::tests))]
 fn unanswered_code(bytes: usize) -> u16
     ensures { result ≡ unanswered bytes }
 {

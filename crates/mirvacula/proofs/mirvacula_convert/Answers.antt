@@ -31,5 +31,5 @@ returns c =
     elim c.match-convert.branch [
       | in-Ok w ↦ rw w.number-is (told a.capture.now a.out.now c.convert.new.out a.answer.now c.if-answer-ne2.false _ w.in-Ok.ensures)
       | in-Err w ↦ rw (w.number-is, w.number.ensures, w.frame_in.ensures)
-        (told a.capture.now a.out.now c.convert.new.out a.answer.now c.if-answer-ne2.false _ w.in-Err.ensures)
+          (told a.capture.now a.out.now c.convert.new.out a.answer.now c.if-answer-ne2.false _ w.in-Err.ensures)
     ]

@@ -1,5 +1,4 @@
 -- `printed` meets its contract: the four lines put one after the other, which fit the page.
-use native.Mathlib.Omega.{arith}
 use mathlib.Core.List.{append_assoc}
 use mathlib.Core.Path.{◌≡◌, ◌∙◌}
 use Rattle.device.specs.State.{machine}
@@ -13,5 +12,17 @@ pub returns-clause-text : goal.returns-clause-text
 unfolding printed
 returns-clause-text c =
     let m = machine c.args.state c.args.mem.now in
-    let e : written c.put.result ≡ cut (printed c.args.report m) = grind (arith, cut_two, append_assoc) in
+    let e : written c.put.result ≡ cut (printed c.args.report m) =
+    rw (
+      c.put.ensures,
+      c.put_hexadecimal.ensures,
+      c.put_text.ensures,
+      c.into.ensures,
+      c.read-outputs.ensures.0,
+      c.put_block-page-2.ensures,
+      c.put_block-page.ensures,
+      c.put_report-page.ensures,
+      c.new.ensures,
+    )
+    (simp (cut_two, append_assoc)) in
     e ∙ whole c.args.report m

@@ -19,10 +19,10 @@ returns-then-mem-ne16384 c =
 pub loop-turn-init : goal.loop-turn-init
 loop-turn-init c =
     let none : length c.args.trace.now + 1 - 0 ≡ length c.args.trace.now + 1 = omega arith in (
-  refl,
-  rw c.go_on-p.ensures (record { place = omega arith; passes = omega arith; refusals = omega arith; spent = omega arith }),
-  rw none refl,
-)
+      refl,
+      rw c.go_on-p.ensures (record { place = omega arith; passes = omega arith; refusals = omega arith; spent = omega arith }),
+      rw none refl,
+    )
 
 pub returns-then-not-p : goal.returns-then-not-p
 returns-then-not-p c =
