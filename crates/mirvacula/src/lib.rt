@@ -22,7 +22,7 @@ use interlocks::Scan;
 use records::Stop;
 use trace::{Progress, Report};
 
-// 0 for END, 254 for SPENT, else the cause's number.
+// 0 for END, 254 for SPENT, else the cause's number: the C interface needs a number.
 fn stop_code(stop: Stop) -> u16
     ensures { result ≡ stop_code stop }
 {
@@ -89,7 +89,7 @@ fn put_scan(out: &mut [u16], scan: Scan)
     }
 }
 
-// A report, an image or a scan of the wrong length; a memory of the wrong length comes first.
+// A report, an image or a scan of the wrong length; a memory of the wrong length comes first. Numbers, as the C interface needs them.
 #[tactic(auto, using(bools::proofs::Tests::tests))]
 fn misfit_code(words: usize) -> u16
     ensures { result ≡ pick (eqb words 16384) bad_buffer (stop_number Memory) }
@@ -153,7 +153,7 @@ pub extern "C" fn mirvacula_scan(
     report_code(end.report)
 }
 
-// An answer of the wrong length; a capture that is not of whole frames comes first.
+// An answer of the wrong length; a capture that is not of whole frames comes first. Numbers, as the C interface needs them.
 #[tactic(auto, using(bools::proofs::Tests::tests))]
 fn unanswered_code(bytes: usize) -> u16
     ensures { result ≡ unanswered bytes }

@@ -122,6 +122,7 @@ fn tick_on(state: Crate, mem: &[u16], n: u64, inputs: u64, gates: u16) -> Crate
         on = ahead.state;
         left = ahead.left;
     }
+    // no turn is counted: what is left falls by a tick, and then by a stretch
     while 0 < left {
         let outcome = registers::tick(on, mem, inputs, gates);
         on = outcome.state;
