@@ -64,21 +64,18 @@ fn quiet(k: u32, s: Crate, inputs: u64, gatelevels: u16) -> bool
     let loader = common.loader;
     let queue = common.queue;
     let phases = common.phases;
-    let waiting = bools::either(loader.busy, queue.waiting != 0);
-    let still = bools::without(s.levels == inputs, waiting);
-    let low = lines::low_phases(phases);
-    let steady = gate_leaps::steady_gates(gates, k, gatelevels);
-    bools::both(still, bools::both(low, steady))
+    s.levels == inputs
+        && !loader.busy
+        && queue.waiting == 0
+        && lines::low_phases(phases)
+        && gate_leaps::steady_gates(gates, k, gatelevels)
 }
 
 // At most 2^32 - 1.
 fn capped(n: u64) -> u32
     ensures { result ≡ min n 4294967295 }
 {
-    if n < 4294967295 {
-        return n as u32;
-    }
-    4294967295
+    n.min(4_294_967_295) as u32
 }
 
 // How many of the ticks left can be made at once: as many as the timers allow, if these are quiet, else none.

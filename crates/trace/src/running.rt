@@ -1,6 +1,5 @@
 // The run of a trace: record by record, with a budget of ticks.
 ghost use Rattle.std.specs.Prelude.{true, false, not, ◌≡◌, ◌+◌, ◌-◌, ◌^◌, ◌<◌, ◌≤◌};
-ghost use Rattle.words.specs.Word.{bit_of};
 ghost use Rattle.device.specs.Answer.{is_done};
 ghost use Rattle.registers.specs.Calls.{from};
 ghost use Rattle.registers.specs.Calls.{tick as call_tick, write as call_write, tag as call_tag};
@@ -18,36 +17,16 @@ use records::{Record, Stop};
 fn is_refusal(answer: Answer) -> bool
     ensures { result ≡ not (is_done answer) }
 {
-    match answer {
-        Answer::Done => false,
-        Answer::Memory => true,
-        Answer::Address => true,
-        Answer::ReadOnly => true,
-        Answer::Dataset => true,
-        Answer::Full => true,
-        Answer::Level => true,
-        Answer::Length => true,
-    }
+    !matches!(answer, Answer::Done)
 }
 
 // The run stops before a record: all but the stop is kept.
-fn stop_by(p: Progress, stop: Stop) -> Progress
+fn stop_by(mut p: Progress, stop: Stop) -> Progress
     ensures { result ≡ progress_of p.state (stopped p.report stop) false }
 {
-    let state = p.state;
-    let r = p.report;
-    let report = Report {
-        stop,
-        next: r.next,
-        ticks: r.ticks,
-        records: r.records,
-        refused: r.refused,
-    };
-    Progress {
-        state,
-        report,
-        going: false,
-    }
+    p.report.stop = stop;
+    p.going = false;
+    p
 }
 
 // The run goes on behind a record.
@@ -61,13 +40,6 @@ fn go_on(state: Crate, report: Report) -> Progress
     }
 }
 
-// 1 for a refusal.
-fn count_of(refused: bool) -> usize
-    ensures { result ≡ bit_of refused }
-{
-    if refused { 1 } else { 0 }
-}
-
 // The report after one record more.
 fn pass(mut r: Report, t: &[u8], ticks: u64, refused: bool) -> Report
     requires { Room t.now r × (r.ticks + ticks < 2 ^ 64) }
@@ -76,7 +48,7 @@ fn pass(mut r: Report, t: &[u8], ticks: u64, refused: bool) -> Report
     r.next = records::next_at(t, r.next);
     r.ticks += ticks;
     r.records += 1;
-    r.refused += count_of(refused);
+    r.refused += usize::from(refused);
     r
 }
 
