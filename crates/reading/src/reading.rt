@@ -13,90 +13,81 @@ use device::{Answer, Crate, Register, Setting, Status};
 use gates::{Gate, GateState};
 use watchdogs::Watchdog;
 
+// A counter and a gate as at power-up.
+const COUNTER0: Counter = Counter {
+    count: 0,
+    positive: 0,
+    negative: 0,
+    input: 0xFDB6,
+};
+
+const GATE0: Gate = Gate {
+    state: GateState::Idle,
+    timer: 0,
+    timeout: 0,
+    mode: false,
+    prepare: false,
+    recover: false,
+    preparepulse: false,
+    recoverpulse: false,
+    lastprepare: false,
+    output: false,
+};
+
 // Element i, and 0 past the end.
 pub fn at(xs: &[u16], i: usize) -> u16
     ensures { result ≡ get_or xs.now i 0 }
 {
-    if i < xs.len() { xs[i] } else { 0 }
+    xs.get(i).copied().unwrap_or(0)
 }
 
 // The module in a slot.
-fn module_id(slot: u16) -> u16
+fn module_id(slot: usize) -> u16
     ensures { result ≡ module_id slot }
 {
-    if slot < 9 {
-        return 0x07;
+    match slot {
+        0..=8 => 0x07,
+        9..=10 => 0x03,
+        _ => 0x06,
     }
-    if slot < 11 {
-        return 0x03;
-    }
-    0x06
 }
 
 // Two slots' modules, the first in the low byte.
+#[tactic(auto, unfolding(crate::specs::Read::module_word))]
 fn module_word(k: u16) -> u16
     ensures { result ≡ module_word k }
 {
-    if k < 6 {
-        return words::push(module_id(2 * k + 1), 8, module_id(2 * k));
-    }
-    0x0606
+    words::from_fields(2, 8, |j| module_id(2 * usize::from(k) + j))
 }
 
 // Counter n; past the bank one as at power-up.
+#[tactic(auto, unfolding(counters::specs::Counter::counter_at))]
 pub fn counter_at(counters: [Counter; 128], n: usize) -> Counter
     ensures { result ≡ counter_at counters n }
 {
-    if n < 128 {
-        return counters[n];
-    }
-    Counter {
-        count: 0,
-        positive: 0,
-        negative: 0,
-        input: 0xFDB6,
-    }
+    counters.get(n).copied().unwrap_or(COUNTER0)
 }
 
 // The low or the high word of a number.
 fn half(j: u16, z: i32) -> u16
     ensures { result ≡ half_of j z }
 {
-    if j % 2 == 0 {
-        return numbers::low(z);
-    }
-    numbers::high(z)
+    low_first(j, z.cast_unsigned())
 }
 
 // The positive threshold, then the negative one.
 fn threshold(j: u16, c: Counter) -> i32
     ensures { result ≡ threshold_of j c }
 {
-    if j < 2 {
-        return c.positive;
-    }
-    c.negative
+    if j < 2 { c.positive } else { c.negative }
 }
 
 // Gate g; past the twelve one as at power-up.
+#[tactic(auto, unfolding(gates::specs::Gate::gate_at))]
 pub fn gate_at(gates: [Gate; 12], g: usize) -> Gate
     ensures { result ≡ gate_at gates g }
 {
-    if g < 12 {
-        return gates[g];
-    }
-    Gate {
-        state: GateState::Idle,
-        timer: 0,
-        timeout: 0,
-        mode: false,
-        prepare: false,
-        recover: false,
-        preparepulse: false,
-        recoverpulse: false,
-        lastprepare: false,
-        output: false,
-    }
+    gates.get(g).copied().unwrap_or(GATE0)
 }
 
 // Register k of an overflow block; past the block 0.
@@ -150,8 +141,7 @@ fn loader_state(busy: bool) -> u16
 fn count_word(counters: [Counter; 128], k: u16) -> u16
     ensures { result ≡ half_of k (counter_at counters (k / 2)).count }
 {
-    let c = counter_at(counters, (k / 2) as usize);
-    half(k, c.count)
+    half(k, counter_at(counters, (k / 2) as usize).count)
 }
 
 // A word of a threshold.
@@ -167,20 +157,17 @@ fn low_first(j: u16, n: u32) -> u16
     ensures { result ≡ low_first j n }
 {
     if j % 2 == 0 {
-        return (n % 65536) as u16;
+        (n % 65536) as u16
+    } else {
+        (n / 65536) as u16
     }
-    (n / 65536) as u16
 }
 
 // A word of a raw count; past the inputs 0.
 fn raw_word(rawcounts: [u32; 54], k: u16) -> u16
     ensures { result ≡ low_first k (raw_at rawcounts (k / 2)) }
 {
-    let i = (k / 2) as usize;
-    if i < 54 {
-        return low_first(k, rawcounts[i]);
-    }
-    0
+    low_first(k, rawcounts.get((k / 2) as usize).copied().unwrap_or(0))
 }
 
 // The word of a read-only register.
@@ -190,27 +177,23 @@ fn status_word(s: Crate, r: Status) -> u16
 {
     let counters = s.counters;
     let gates = s.gates;
-    let common = s.common;
-    let loader = common.loader;
-    let rest = s.rest;
-    let watchdogs = rest.watchdogs;
-    let rawcounts = rest.rawcounts;
-    let events = rest.events;
+    let watchdogs = s.rest.watchdogs;
+    let rawcounts = s.rest.rawcounts;
     match r {
         Status::Module(k) => module_word(k),
         Status::Negative(k) => overflows(counters, false, k),
         Status::Positive(k) => overflows(counters, true, k),
         Status::GateErrors => gates::gate_bits(gates, Gate::failed),
         Status::WatchdogErrors(k) => watchdog_errors(watchdogs, k),
-        Status::GateInputs => rest.gatelevels,
+        Status::GateInputs => s.rest.gatelevels,
         Status::GateOutputs => gates::gate_bits(gates, |g| g.output),
         Status::Outputs => interlocks::outputs(s, gates::gate_bits(gates, Gate::failed)),
         Status::GateStates(k) => gate_states(gates, k),
-        Status::TagLow => events.low,
-        Status::TagHigh => events.high,
-        Status::Code => events.code,
-        Status::LoaderState => loader_state(loader.busy),
-        Status::LoaderCounter => events.handled,
+        Status::TagLow => s.rest.events.low,
+        Status::TagHigh => s.rest.events.high,
+        Status::Code => s.rest.events.code,
+        Status::LoaderState => loader_state(s.common.loader.busy),
+        Status::LoaderCounter => s.rest.events.handled,
         Status::Count(k) => count_word(counters, k),
         Status::Raw(k) => raw_word(rawcounts, k),
         Status::Threshold(k) => threshold_word(counters, k),
@@ -222,15 +205,11 @@ fn status_word(s: Crate, r: Status) -> u16
 fn setting_word(s: Crate, r: Setting) -> u16
     ensures { result ≡ setting_word s r }
 {
-    let rest = s.rest;
-    let masks = rest.masks;
-    let selections = rest.selections;
-    let watchdogs = rest.watchdogs;
     match r {
-        Setting::Mask(k) => at(&masks, k as usize),
-        Setting::WatchdogTimeout => rest.timeout,
-        Setting::WatchdogReset(k) => watchdog_resets(watchdogs, k),
-        Setting::Selection(j) => at(&selections, j as usize),
+        Setting::Mask(k) => at(&s.rest.masks, k as usize),
+        Setting::WatchdogTimeout => s.rest.timeout,
+        Setting::WatchdogReset(k) => watchdog_resets(s.rest.watchdogs, k),
+        Setting::Selection(j) => at(&s.rest.selections, j as usize),
     }
 }
 
@@ -238,16 +217,14 @@ fn setting_word(s: Crate, r: Setting) -> u16
 fn timeout_word(gates: [Gate; 12], g: u16) -> u16
     ensures { result ≡ (gate_at gates g).timeout }
 {
-    let gate = gate_at(gates, g as usize);
-    gate.timeout
+    gate_at(gates, g as usize).timeout
 }
 
 // A counter's input register.
 fn input_word(counters: [Counter; 128], n: u16) -> u16
     ensures { result ≡ (counter_at counters n).input }
 {
-    let c = counter_at(counters, n as usize);
-    c.input
+    counter_at(counters, n as usize).input
 }
 
 // The word of a register.
@@ -256,23 +233,21 @@ pub fn word_in(s: Crate, mem: &[u16], r: Register) -> u16
     ensures { result ≡ word_in (machine s mem.now) r }
 {
     let counters = s.counters;
-    let groups = s.groups;
     let gates = s.gates;
-    let common = s.common;
     match r {
         Register::Nothing => 0,
         Register::Readout(status) => status_word(s, status),
         Register::Other(setting) => setting_word(s, setting),
-        Register::Control => common.control,
+        Register::Control => s.common.control,
         Register::Mode => gates::gate_bits(gates, |g| g.mode),
         Register::Timeout(g) => timeout_word(gates, g),
-        Register::Key => common.key,
-        Register::Enable => common.enable,
-        Register::Reload => common.reload,
+        Register::Key => s.common.key,
+        Register::Enable => s.common.enable,
+        Register::Reload => s.common.reload,
         Register::Prepare => gates::gate_bits(gates, |g| g.prepare),
         Register::Recover => gates::gate_bits(gates, |g| g.recover),
         Register::Input(n) => input_word(counters, n),
-        Register::Group(k) => at(&groups, k as usize),
+        Register::Group(k) => at(&s.groups, k as usize),
         Register::Word(i) => at(mem, i as usize),
     }
 }
@@ -283,18 +258,6 @@ pub fn answer_for(r: Register) -> Answer
 {
     match r {
         Register::Nothing => Answer::Address,
-        Register::Readout(_) => Answer::Done,
-        Register::Other(_) => Answer::Done,
-        Register::Control => Answer::Done,
-        Register::Mode => Answer::Done,
-        Register::Timeout(_) => Answer::Done,
-        Register::Key => Answer::Done,
-        Register::Enable => Answer::Done,
-        Register::Reload => Answer::Done,
-        Register::Prepare => Answer::Done,
-        Register::Recover => Answer::Done,
-        Register::Input(_) => Answer::Done,
-        Register::Group(_) => Answer::Done,
-        Register::Word(_) => Answer::Done,
+        _ => Answer::Done,
     }
 }
