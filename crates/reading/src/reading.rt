@@ -1,5 +1,5 @@
 // The word that a read of each register gives.
-ghost use Rattle.std.specs.Prelude.{◌≡◌, true, false, ◌/◌, ◌%◌, get_or};
+ghost use Rattle.std.specs.Prelude.{◌≡◌, true, false, ◌/◌, ◌%◌, get_or, ℕ, ◌<◌, ◌≤◌};
 ghost use Rattle.bools.specs.Pick.{pick};
 ghost use Rattle.counters.specs.Counter.{counter_at, is_out, overflow_word};
 ghost use Rattle.gates.specs.Gate.{gate_at, state_word};
@@ -90,44 +90,40 @@ pub fn gate_at(gates: [Gate; 12], g: usize) -> Gate
     gates.get(g).copied().unwrap_or(GATE0)
 }
 
+// Register k of a block of so many registers; past them 0.
+fn in_block<F: Fn(usize) -> u16>(length: u16, k: u16, word: F) -> u16
+    requires { k < length → F.pre word k }
+    ensures { (x : ℕ) → ((w : ℕ) → F.post word k w → w ≡ x) → (length ≤ k → x ≡ 0) → result ≡ x }
+{
+    if k < length { word(k as usize) } else { 0 }
+}
+
 // Register k of an overflow block; past the block 0.
 fn overflows(counters: [Counter; 128], positive: bool, k: u16) -> u16
     ensures { result ≡ overflow_word (is_out positive) counters k }
 {
-    if k < 8 {
-        return counters::overflow_word(counters, positive, k as usize);
-    }
-    0
+    in_block(8, k, |i| counters::overflow_word(counters, positive, i))
 }
 
 // Register k of the error block; past the block 0.
 fn watchdog_errors(watchdogs: [Watchdog; 54], k: u16) -> u16
     ensures { result ≡ watchdog_word (flag_of true) watchdogs k }
 {
-    if k < 4 {
-        return watchdogs::error_word(watchdogs, k as usize);
-    }
-    0
+    in_block(4, k, |i| watchdogs::error_word(watchdogs, i))
 }
 
 // Register k of the reset block; past the block 0.
 fn watchdog_resets(watchdogs: [Watchdog; 54], k: u16) -> u16
     ensures { result ≡ watchdog_word (flag_of false) watchdogs k }
 {
-    if k < 4 {
-        return watchdogs::reset_word(watchdogs, k as usize);
-    }
-    0
+    in_block(4, k, |i| watchdogs::reset_word(watchdogs, i))
 }
 
 // Register k of the gate states; past the block 0.
 fn gate_states(gates: [Gate; 12], k: u16) -> u16
     ensures { result ≡ state_word gates k }
 {
-    if k < 3 {
-        return gates::state_word(gates, k as usize);
-    }
-    0
+    in_block(3, k, |i| gates::state_word(gates, i))
 }
 
 // 3 while the loader is busy.
