@@ -41,9 +41,7 @@ pub fn enqueue(mut cm: Common, request: Request) -> Common
     requires { cm.queue.waiting < 16 }
     ensures { result ≡ with_queue cm (pushed cm.queue request) }
 {
-    let old_queue = cm.queue;
-    let queue = old_queue.push(request);
-    cm.queue = queue;
+    cm.queue = cm.queue.push(request);
     cm
 }
 
@@ -51,10 +49,7 @@ pub fn enqueue(mut cm: Common, request: Request) -> Common
 fn triggered(word: u16, cm: Common) -> bool
     ensures { result ≡ triggers word cm }
 {
-    bools::without(
-        words::bit(word as u64, 12),
-        words::bit(cm.reload as u64, 12),
-    )
+    words::bit(word as u64, 12) && !words::bit(cm.reload as u64, 12)
 }
 
 // What a write to 0x0A02 answers.
@@ -62,9 +57,8 @@ fn triggered(word: u16, cm: Common) -> bool
 fn reload_answer(word: u16, cm: Common) -> Answer
     ensures { result ≡ reload_answer word cm }
 {
-    let queue = cm.queue;
     if triggered(word, cm) {
-        return request_answer(queue, Request::of(word).dataset);
+        return request_answer(cm.queue, Request::of(word).dataset);
     }
     Answer::Done
 }
@@ -74,21 +68,15 @@ fn reload_answer(word: u16, cm: Common) -> Answer
 fn write_reload(word: u16, mut cm: Common) -> Common
     ensures { result ≡ reload_write word cm }
 {
-    let queue = cm.queue;
-    let request = Request::of(word);
-    if !triggered(word, cm) {
-        cm.reload = word % 8192;
-        return cm;
+    if triggered(word, cm) {
+        let request = Request::of(word);
+        if 31 < request.dataset || 16 <= cm.queue.waiting {
+            return cm;
+        }
+        cm = enqueue(cm, request);
     }
-    if 31 < request.dataset {
-        return cm;
-    }
-    if 16 <= queue.waiting {
-        return cm;
-    }
-    let mut next = enqueue(cm, request);
-    next.reload = word % 8192;
-    next
+    cm.reload = word % 8192;
+    cm
 }
 
 // The used bits of an output's selection word.
@@ -96,17 +84,11 @@ fn write_reload(word: u16, mut cm: Common) -> Common
 fn keep_selection(j: u16, word: u16) -> u16
     ensures { result ≡ kept (Other (Selection j)) word }
 {
-    let k = j % 22;
-    if k == 0x10 {
-        return word % 4096;
+    match j % 22 {
+        0x10 | 0x15 => word % 4096,
+        0x14 => word % 64,
+        _ => word,
     }
-    if k == 0x14 {
-        return word % 64;
-    }
-    if k == 0x15 {
-        return word % 4096;
-    }
-    word
 }
 
 // A write to a setting.
@@ -115,29 +97,16 @@ fn write_setting(mut rest: Rest, r: Setting, word: u16) -> Rest
     ensures { result ≡ rest_write r word rest }
 {
     match r {
-        Setting::Mask(k) => {
-            let mut masks = rest.masks;
-            store(&mut masks, k as usize, word % 4096);
-            rest.masks = masks;
-            rest
-        }
-        Setting::WatchdogTimeout => {
-            rest.timeout = word;
-            rest
-        }
+        Setting::Mask(k) => store(&mut rest.masks, k as usize, word % 4096),
+        Setting::WatchdogTimeout => rest.timeout = word,
         Setting::WatchdogReset(k) => {
-            let old = rest.watchdogs;
-            let watchdogs = watchdogs::reset_watchdogs(old, k as usize, word);
-            rest.watchdogs = watchdogs;
-            rest
+            rest.watchdogs = watchdogs::reset_watchdogs(rest.watchdogs, k as usize, word);
         }
         Setting::Selection(j) => {
-            let mut selections = rest.selections;
-            store(&mut selections, j as usize, keep_selection(j, word));
-            rest.selections = selections;
-            rest
+            store(&mut rest.selections, j as usize, keep_selection(j, word));
         }
     }
+    rest
 }
 
 // A write to 0x0801: RESET clears all counts.
@@ -145,14 +114,9 @@ fn write_setting(mut rest: Rest, r: Setting, word: u16) -> Rest
 fn write_control(mut s: Crate, word: u16) -> Crate
     ensures { result ≡ with_common (with_counters s (reset_by word s.counters)) (control_write word s.common) }
 {
-    let mut common = s.common;
-    common.control = word % 4;
-    s.common = common;
+    s.common.control = word % 4;
     if words::bit(word as u64, 0) {
-        let old = s.counters;
-        let counters = counters::clear_counters(old);
-        s.counters = counters;
-        return s;
+        s.counters = counters::clear_counters(s.counters);
     }
     s
 }
@@ -162,9 +126,7 @@ pub fn write_gates<F: Fn(Gate, bool) -> Gate>(mut s: Crate, word: u16, change: F
     requires { F.IsAlwaysCallable change }
     ensures { (f : Bool → Gate → Gate) → ((g : Gate) (b : Bool) (next : Gate) → F.post change g b next → next ≡ f b g) → result ≡ with_gates s (each_gate f word s.gates) }
 {
-    let old = s.gates;
-    let gates = gates::change_gates(old, word, change);
-    s.gates = gates;
+    s.gates = gates::change_gates(s.gates, word, change);
     s
 }
 
@@ -173,12 +135,9 @@ pub fn write_gates<F: Fn(Gate, bool) -> Gate>(mut s: Crate, word: u16, change: F
 fn write_timeout(mut s: Crate, g: u16, word: u16) -> Crate
     ensures { result ≡ with_gates s (set s.gates g (with_timeout (kept (Timeout g) word) (gate_at s.gates g))) }
 {
-    let mut gates = s.gates;
     let i = g as usize;
     if i < 12 {
-        let gate = gates[i];
-        gates[i] = gate.with_timeout(word);
-        s.gates = gates;
+        s.gates[i].timeout = word;
     }
     s
 }
@@ -188,12 +147,9 @@ fn write_timeout(mut s: Crate, g: u16, word: u16) -> Crate
 fn write_input(mut s: Crate, n: u16, word: u16) -> Crate
     ensures { result ≡ with_counters s (set s.counters n (with_input (counter_at s.counters n) (kept (Input n) word))) }
 {
-    let mut counters = s.counters;
     let i = n as usize;
     if i < 128 {
-        let c = counters[i];
-        counters[i] = c.with_input(word);
-        s.counters = counters;
+        s.counters[i].input = word;
     }
     s
 }
@@ -203,9 +159,7 @@ fn write_input(mut s: Crate, n: u16, word: u16) -> Crate
 fn write_group(mut s: Crate, k: u16, word: u16) -> Crate
     ensures { result ≡ with_groups s (set s.groups k (kept (Group k) word)) }
 {
-    let mut groups = s.groups;
-    store(&mut groups, k as usize, word);
-    s.groups = groups;
+    store(&mut s.groups, k as usize, word);
     s
 }
 
@@ -214,9 +168,7 @@ fn write_group(mut s: Crate, k: u16, word: u16) -> Crate
 fn write_key(mut s: Crate, word: u16) -> Crate
     ensures { result ≡ with_common s (key_write word s.common) }
 {
-    let mut common = s.common;
-    common.key = word;
-    s.common = common;
+    s.common.key = word;
     s
 }
 
@@ -225,9 +177,7 @@ fn write_key(mut s: Crate, word: u16) -> Crate
 fn write_enable(mut s: Crate, word: u16) -> Crate
     ensures { result ≡ with_common s (enable_write word s.common) }
 {
-    let mut common = s.common;
-    common.enable = word % 2;
-    s.common = common;
+    s.common.enable = word % 2;
     s
 }
 
@@ -235,9 +185,7 @@ fn write_enable(mut s: Crate, word: u16) -> Crate
 fn write_request(mut s: Crate, word: u16) -> Crate
     ensures { result ≡ with_common s (reload_write word s.common) }
 {
-    let old = s.common;
-    let common = write_reload(word, old);
-    s.common = common;
+    s.common = write_reload(word, s.common);
     s
 }
 
@@ -245,9 +193,7 @@ fn write_request(mut s: Crate, word: u16) -> Crate
 fn write_other(mut s: Crate, r: Setting, word: u16) -> Crate
     ensures { result ≡ with_rest s (rest_write r word s.rest) }
 {
-    let old = s.rest;
-    let rest = write_setting(old, r, word);
-    s.rest = rest;
+    s.rest = write_setting(s.rest, r, word);
     s
 }
 
@@ -259,18 +205,8 @@ pub fn write_answer(cm: Common, r: Register, word: u16) -> Answer
     match r {
         Register::Nothing => Answer::Address,
         Register::Readout(_) => Answer::ReadOnly,
-        Register::Other(_) => Answer::Done,
-        Register::Control => Answer::Done,
-        Register::Mode => Answer::Done,
-        Register::Timeout(_) => Answer::Done,
-        Register::Key => Answer::Done,
-        Register::Enable => Answer::Done,
         Register::Reload => reload_answer(word, cm),
-        Register::Prepare => Answer::Done,
-        Register::Recover => Answer::Done,
-        Register::Input(_) => Answer::Done,
-        Register::Group(_) => Answer::Done,
-        Register::Word(_) => Answer::Done,
+        _ => Answer::Done,
     }
 }
 
