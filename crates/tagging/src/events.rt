@@ -47,11 +47,10 @@ fn right_key(cm: Common, t: u32) -> bool
 fn note(mut e: Events, right: bool, t: u32) -> Events
     ensures { result ≡ noted right t e }
 {
-    let code = code_of(t);
-    e.low = code;
+    e.low = code_of(t);
     e.high = key_of(t);
     if right {
-        e.code = code;
+        e.code = code_of(t);
     }
     e
 }
@@ -60,12 +59,7 @@ fn note(mut e: Events, right: bool, t: u32) -> Events
 fn note_in(mut s: Crate, t: u32) -> Crate
     ensures { result ≡ noted_in s t }
 {
-    let common = s.common;
-    let mut rest = s.rest;
-    let old = rest.events;
-    let events = note(old, right_key(common, t), t);
-    rest.events = events;
-    s.rest = rest;
+    s.rest.events = note(s.rest.events, right_key(s.common, t), t);
     s
 }
 
@@ -74,13 +68,8 @@ fn note_in(mut s: Crate, t: u32) -> Crate
 fn request(cm: Common, t: u32) -> Common
     ensures { result ≡ tag_request t cm }
 {
-    let queue = cm.queue;
-    let code = code_of(t);
-    let request = Request::of(code);
-    if 31 < request.dataset {
-        return cm;
-    }
-    if 16 <= queue.waiting {
+    let request = Request::of(code_of(t));
+    if 31 < request.dataset || 16 <= cm.queue.waiting {
         return cm;
     }
     writing::enqueue(cm, request)
@@ -90,9 +79,7 @@ fn request(cm: Common, t: u32) -> Common
 fn request_in(mut s: Crate, t: u32) -> Crate
     ensures { result ≡ with_common s (tag_request t s.common) }
 {
-    let old = s.common;
-    let common = request(old, t);
-    s.common = common;
+    s.common = request(s.common, t);
     s
 }
 
@@ -100,9 +87,7 @@ fn request_in(mut s: Crate, t: u32) -> Crate
 fn clear_in(mut s: Crate) -> Crate
     ensures { result ≡ with_counters s (clear_counters s.counters) }
 {
-    let old = s.counters;
-    let counters = counters::clear_counters(old);
-    s.counters = counters;
+    s.counters = counters::clear_counters(s.counters);
     s
 }
 
@@ -111,21 +96,14 @@ fn clear_in(mut s: Crate) -> Crate
 fn command(s: Crate, t: u32) -> Crate
     ensures { result ≡ commanded s t }
 {
-    let number = command_of(t);
     let gates = (t % 4096) as u16;
-    if number == 1 {
-        return request_in(s, t);
+    match command_of(t) {
+        1 => request_in(s, t),
+        2 => writing::write_gates(s, gates, Gate::pulse_prepare),
+        3 => writing::write_gates(s, gates, Gate::pulse_recover),
+        4 => clear_in(s),
+        _ => s,
     }
-    if number == 2 {
-        return writing::write_gates(s, gates, Gate::pulse_prepare);
-    }
-    if number == 3 {
-        return writing::write_gates(s, gates, Gate::pulse_recover);
-    }
-    if number == 4 {
-        return clear_in(s);
-    }
-    s
 }
 
 // What a tag does.
@@ -133,12 +111,11 @@ fn command(s: Crate, t: u32) -> Crate
 pub fn tag_crate(s: Crate, t: u32) -> Crate
     ensures { result ≡ tag_of s t }
 {
-    let common = s.common;
-    if !events_on(common) {
+    if !events_on(s.common) {
         return s;
     }
     let next = note_in(s, t);
-    if !right_key(common, t) {
+    if !right_key(s.common, t) {
         return next;
     }
     command(next, t)
@@ -149,15 +126,8 @@ pub fn tag_crate(s: Crate, t: u32) -> Crate
 pub fn tag_answer(cm: Common, t: u32) -> Answer
     ensures { result ≡ tag_answer cm t }
 {
-    let queue = cm.queue;
-    if !events_on(cm) {
+    if !events_on(cm) || !right_key(cm, t) || command_of(t) != 1 {
         return Answer::Done;
     }
-    if !right_key(cm, t) {
-        return Answer::Done;
-    }
-    if command_of(t) != 1 {
-        return Answer::Done;
-    }
-    writing::request_answer(queue, Request::of(code_of(t)).dataset)
+    writing::request_answer(cm.queue, Request::of(code_of(t)).dataset)
 }

@@ -7,16 +7,16 @@ use Rattle.device.specs.State.{with_gates}
 use Rattle.tagging.specs.Tag.{commanded}
 use Rattle.tagging.proofs.events.command.Goals as goal
 
-pub returns-then-number-eq2 : goal.returns-then-number-eq2
+pub returns-in-2 : goal.returns-in-2
 unfolding commanded
-returns-then-number-eq2 c =
+returns-in-2 c =
     let a = c.args in
-    rw (← c.command_of-number.ensures, c.if-number-eq2.true)
+    rw (← c.command_of.ensures, c.in-2.is)
     (c.write_gates.ensures with_prepare_pulse (λ g b n p. search (rules, p)) ∙ ap (with_gates a.s) (each_gate_low with_prepare_pulse a.t a.s.gates))
 
-pub returns-then-number-eq3 : goal.returns-then-number-eq3
+pub returns-in-3 : goal.returns-in-3
 unfolding commanded
-returns-then-number-eq3 c =
+returns-in-3 c =
     let a = c.args in
-    rw (← c.command_of-number.ensures, c.if-number-eq3.true)
-    (c.write_gates-then-number-eq3.ensures with_recover_pulse (λ g b n p. search (rules, p)) ∙ ap (with_gates a.s) (each_gate_low with_recover_pulse a.t a.s.gates))
+    rw (← c.command_of.ensures, c.in-3.is)
+    (c.write_gates-in-3.ensures with_recover_pulse (λ g b n p. search (rules, p)) ∙ ap (with_gates a.s) (each_gate_low with_recover_pulse a.t a.s.gates))
