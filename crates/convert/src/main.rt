@@ -9,7 +9,7 @@ use std::io::Stderr;
 // Nine bytes a frame.
 const LIMIT: usize = 1_179_648;
 
-// Room for so many bytes.
+// Room for so many bytes. A function, as the prover counts the elements of an array that stands in `main`, and there are too many.
 fn space<const N: usize>() -> [u8; N]
     ensures { N ≡ length result }
 {

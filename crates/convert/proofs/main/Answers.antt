@@ -5,7 +5,7 @@ use Rattle.captures.proofs.Done.{made_done}
 use Rattle.convert.proofs.main.Goals as goal
 
 pub slice_bounds-out-end : goal.slice_bounds-out-end
-slice_bounds-out-end c = (made_done _ _ _ _ c.in-Ok.ensures).within
+slice_bounds-out-end c = (made_done _ _ _ _ c.in-Ok-convert.ensures).within
 
 pub slice_bounds-write_all-end : goal.slice_bounds-write_all-end
-slice_bounds-write_all-end c = sym (length-take-le _ c.convert.new.out (made_done _ _ _ _ c.in-Ok.ensures).within)
+slice_bounds-write_all-end c = sym (length-take-le _ c.convert.new.out (made_done _ _ _ _ c.in-Ok-convert.ensures).within)
