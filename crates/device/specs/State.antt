@@ -1,10 +1,10 @@
 -- The crate's state: one place for each change of a record, the crate with its memory, and power-up.
-use Rattle.std.specs.Prelude.{ℕ, List}
+use Rattle.std.specs.Prelude.{ℕ, List, Option}
 use Rattle.lists.specs.Table.{tabulate}
 use Rattle.counters.specs.declared.counter.Counter.{Counter}
 use Rattle.gates.specs.declared.gate.Gate.{Gate}
-use Rattle.loader.specs.declared.loader.Loader.{Loader}
 use Rattle.loader.specs.declared.loader.Queue.{Queue}
+use Rattle.loader.specs.declared.loader.Reload.{Reload}
 use Rattle.watchdogs.specs.declared.watchdog.Watchdog.{Watchdog}
 use Rattle.counters.specs.Counter.{counter0, counter_count}
 use Rattle.gates.specs.Gate.{gate0}
@@ -38,7 +38,7 @@ with_rest s x = crate_of s.counters s.groups s.gates s.levels s.common x
 
 -- what all counters share: the four registers 0x0801, 0x0A00, 0x0A01, 0x0A02, the queue, the loader, the phases
 
-abbrev pub common_of : ℕ → ℕ → ℕ → ℕ → Queue → Loader → List ℕ → Common
+abbrev pub common_of : ℕ → ℕ → ℕ → ℕ → Queue → Option Reload → List ℕ → Common
 common_of control key enable reload queue loader phases = record {
   control = control;
   key = key;

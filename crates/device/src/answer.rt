@@ -1,13 +1,10 @@
 // What a call answers.
 ghost use Rattle.std.specs.Prelude.{◌≡◌};
-ghost use Rattle.device.specs.Answer.{number_of};
+ghost use Rattle.device.specs.Answer.{cause_number, number_of};
 
-use crate::state::Crate;
-
-// Done, or the cause of refusal.
-#[derive(Clone, Copy)]
-pub enum Answer {
-    Done,
+// The causes of refusal.
+#[derive(Clone, Copy, Debug, PartialEq, Eq)]
+pub enum Refusal {
     Memory,
     Address,
     ReadOnly,
@@ -17,34 +14,29 @@ pub enum Answer {
     Length,
 }
 
-impl Answer {
-    // The number of the table of causes, 0 for an accepted call.
-    pub fn number(self) -> u16
-        ensures { result ≡ number_of self }
-    {
-        match self {
-            Answer::Done => 0,
-            Answer::Memory => 1,
-            Answer::Address => 2,
-            Answer::ReadOnly => 3,
-            Answer::Dataset => 4,
-            Answer::Full => 5,
-            Answer::Level => 6,
-            Answer::Length => 11,
+// The number of the table of causes.
+impl From<Refusal> for u16 {
+    ghost from_gives = { λ cause number. number ≡ cause_number cause };
+
+    fn from(cause: Refusal) -> u16 {
+        match cause {
+            Refusal::Memory => 1,
+            Refusal::Address => 2,
+            Refusal::ReadOnly => 3,
+            Refusal::Dataset => 4,
+            Refusal::Full => 5,
+            Refusal::Level => 6,
+            Refusal::Length => 11,
         }
     }
 }
 
-// The answer of a call and the crate as the call left it.
-#[derive(Clone, Copy)]
-pub struct Outcome {
-    pub answer: Answer,
-    pub state: Crate,
-}
-
-// The answer of a read and the word read, 0 where it was refused.
-#[derive(Clone, Copy)]
-pub struct Read {
-    pub answer: Answer,
-    pub word: u16,
+// The number of an answer, 0 for an accepted call.
+pub fn number(answer: Result<(), Refusal>) -> u16
+    ensures { result ≡ number_of answer }
+{
+    match answer {
+        Ok(()) => 0,
+        Err(cause) => cause.into(),
+    }
 }

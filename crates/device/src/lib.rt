@@ -5,6 +5,6 @@ mod answer;
 mod map;
 mod state;
 
-pub use answer::{Answer, Outcome, Read};
+pub use answer::{Refusal, number};
 pub use map::{Register, Setting, Status, decode};
 pub use state::{Common, Crate, Events, Rest};

@@ -1,7 +1,7 @@
 // The crate's state: what each counter and gate has, what all counters share, and what no counter sees.
 use counters::Counter;
 use gates::Gate;
-use loader::{Loader, Queue};
+use loader::{Queue, Reload};
 use watchdogs::Watchdog;
 
 #[derive(Clone, Copy)]
@@ -25,7 +25,8 @@ pub struct Common {
     pub enable: u16,
     pub reload: u16,
     pub queue: Queue,
-    pub loader: Loader,
+    // the reload that the loader works on, none while it is idle
+    pub loader: Option<Reload>,
     pub phases: [u32; 9],
 }
 
@@ -45,7 +46,7 @@ pub struct Rest {
 }
 
 // The last tag, the last accepted tag, and the last counter handled by the loader: 0x0900 to 0x0902 and 0x0904.
-#[derive(Clone, Copy)]
+#[derive(Clone, Copy, Default)]
 pub struct Events {
     pub low: u16,
     pub high: u16,

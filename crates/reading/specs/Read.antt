@@ -1,5 +1,5 @@
 -- Document 01, "Writes and event tags", and the Manual's register tables: the word that a read gives.
-use Rattle.std.specs.Prelude.{ℕ, ◌+◌, ◌*◌, ◌/◌, ◌%◌, eqb, ltb, ℤ, get_or}
+use Rattle.std.specs.Prelude.{ℕ, ◌+◌, ◌*◌, ◌/◌, ◌%◌, eqb, ltb, ℤ, get_or, Result, Ok, Err}
 use Rattle.bools.specs.Pick.{pick}
 use Rattle.numbers.specs.Signed.{word_of}
 use Rattle.words.specs.Word.{fields}
@@ -7,11 +7,11 @@ use Rattle.counters.specs.declared.counter.Counter.{Counter}
 use Rattle.counters.specs.Counter.{counter_at, is_over, is_under, overflow_word}
 use Rattle.gates.specs.Gate.{failed, gate_at, gate_bits, mode, outputs_of, prepare, recover, state_word}
 use Rattle.lines.specs.Raw.{raw_at}
+use Rattle.loader.specs.Loader.{busy}
 use Rattle.loader.specs.Memory.{is_whole, word_at}
 use Rattle.watchdogs.specs.Watchdog.{error_of, reset_of, watchdog_word}
-use Rattle.device.specs.declared.answer.Answer.{Answer}
-use Rattle.device.specs.declared.answer.Answer.TheVariants.{Done, Memory, Address}
-use Rattle.device.specs.declared.answer.Read.{Read}
+use Rattle.device.specs.declared.answer.Refusal.{Refusal}
+use Rattle.device.specs.declared.answer.Refusal.TheVariants.{Memory, Address}
 use Rattle.device.specs.declared.map.Register.{Register}
 use Rattle.device.specs.declared.map.Register.TheVariants.{Nothing, Readout, Other, Control, Mode, Timeout, Key, Enable, Reload, Prepare, Recover, Input, Group, Word}
 use Rattle.device.specs.declared.map.Setting.{Setting}
@@ -20,6 +20,7 @@ use Rattle.device.specs.declared.map.Status.{Status}
 use Rattle.device.specs.declared.map.Status.TheVariants.{Module, Negative, Positive, GateErrors, WatchdogErrors, GateInputs, GateOutputs, Outputs}
 use Rattle.device.specs.declared.map.Status.TheVariants.{GateStates, TagLow, TagHigh, Code, LoaderState, LoaderCounter, Count, Raw, Threshold}
 use Rattle.device.specs.declared.state.Crate.{Crate}
+use Rattle.device.specs.Answer.{Answer}
 use Rattle.interlocks.specs.Interlock.{interlocks}
 use Rattle.device.specs.Map.{decode_of}
 use Rattle.device.specs.State.{Machine}
@@ -56,7 +57,7 @@ status_word s (GateStates k) = state_word s.gates k
 status_word s TagLow = s.rest.events.low
 status_word s TagHigh = s.rest.events.high
 status_word s Code = s.rest.events.code
-status_word s LoaderState = pick s.common.loader.busy 3 0
+status_word s LoaderState = pick (busy s.common.loader) 3 0
 status_word s LoaderCounter = s.rest.events.handled
 status_word s (Count k) = half_of k (counter_at s.counters (k / 2)).count
 status_word s (Raw k) = low_first k (raw_at s.rest.rawcounts (k / 2))
@@ -85,24 +86,26 @@ word_in m (Group k) = get_or m.state.groups k 0
 word_in m (Word i) = word_at m.memory i
 
 abbrev pub answer_for : Register → Answer
-answer_for Nothing = Address
-answer_for (Readout r) = Done
-answer_for (Other r) = Done
-answer_for Control = Done
-answer_for Mode = Done
-answer_for (Timeout g) = Done
-answer_for Key = Done
-answer_for Enable = Done
-answer_for Reload = Done
-answer_for Prepare = Done
-answer_for Recover = Done
-answer_for (Input n) = Done
-answer_for (Group k) = Done
-answer_for (Word i) = Done
+answer_for Nothing = Err Address
+answer_for (Readout r) = Ok tt
+answer_for (Other r) = Ok tt
+answer_for Control = Ok tt
+answer_for Mode = Ok tt
+answer_for (Timeout g) = Ok tt
+answer_for Key = Ok tt
+answer_for Enable = Ok tt
+answer_for Reload = Ok tt
+answer_for Prepare = Ok tt
+answer_for Recover = Ok tt
+answer_for (Input n) = Ok tt
+answer_for (Group k) = Ok tt
+answer_for (Word i) = Ok tt
 
-abbrev pub read_by : Answer → ℕ → Read
-read_by a w = record { answer = a; word = w }
+-- a register that is there is read as a word
+abbrev pub with_word : Answer → ℕ → Result ℕ Refusal
+with_word (Ok _) w = Ok w
+with_word (Err cause) w = Err cause
 
--- a read: cause 1, then 2, each with word 0
-unfoldable pub read_of : Machine → ℕ → Read
-read_of m a = pick (is_whole m.memory) (read_by (answer_for (decode_of a)) (word_in m (decode_of a))) (read_by Memory 0)
+-- a read: cause 1, then 2
+unfoldable pub read_of : Machine → ℕ → Result ℕ Refusal
+read_of m a = pick (is_whole m.memory) (with_word (answer_for (decode_of a)) (word_in m (decode_of a))) (Err Memory)

@@ -1,14 +1,12 @@
 -- Document 01, "The one-counter sheet": lists of calls on one crate and one memory, and "Causes of refusal" of each call.
-use Rattle.std.specs.Prelude.{ℕ, ◌+◌, ◌*◌, Bool, not, List, [], ◌∷◌, eqb, length}
+use Rattle.std.specs.Prelude.{ℕ, ◌+◌, ◌*◌, Bool, not, List, [], ◌∷◌, eqb, length, Ok, Err}
 use Rattle.bools.specs.Pick.{pick}
 use Rattle.words.specs.Word.{bit_of}
 use Rattle.loader.specs.Loader.{is_beyond}
 use Rattle.loader.specs.Memory.{dataset_words, is_whole, replaced}
-use Rattle.device.specs.declared.answer.Answer.{Answer}
-use Rattle.device.specs.declared.answer.Answer.TheVariants.{Done, Memory, Dataset, Level, Length}
-use Rattle.device.specs.declared.answer.Outcome.{Outcome}
+use Rattle.device.specs.declared.answer.Refusal.TheVariants.{Memory, Dataset, Level, Length}
 use Rattle.device.specs.declared.state.Crate.{Crate}
-use Rattle.device.specs.Answer.{is_done}
+use Rattle.device.specs.Answer.{Answer, is_done}
 use Rattle.device.specs.Map.{decode_of}
 use Rattle.device.specs.State.{Machine, machine, memory0, power_up, with_memory, with_state}
 use Rattle.tagging.specs.Tag.{noted_in, tag_answer, tag_of}
@@ -24,11 +22,11 @@ pub data Call : Type 0 where
   download : ℕ → List ℕ → Call
 
 abbrev pub tick_answer : ℕ → ℕ → Answer
-tick_answer inputs gates = pick (bad_levels inputs gates) Level Done
+tick_answer inputs gates = pick (bad_levels inputs gates) (Err Level) (Ok tt)
 
 -- a download: cause 11 before 4
 unfoldable pub download_answer : ℕ → ℕ → Answer
-download_answer d size = pick (eqb size dataset_words) (pick (is_beyond d) Dataset Done) Length
+download_answer d size = pick (eqb size dataset_words) (pick (is_beyond d) (Err Dataset) (Ok tt)) (Err Length)
 
 -- what a call answers and leaves once the memory has its 16,384 words
 unfoldable pub call_answer : Machine → Call → Answer
@@ -46,7 +44,7 @@ called m (download d words) =
 
 -- "Every call on a crate is lent the memory, so 1 comes first"
 unfoldable pub answer : Machine → Call → Answer
-answer m x = pick (is_whole m.memory) (call_answer m x) Memory
+answer m x = pick (is_whole m.memory) (call_answer m x) (Err Memory)
 
 unfoldable pub step : Machine → Call → Machine
 step m x = pick (is_whole m.memory) (called m x) m
@@ -58,16 +56,9 @@ left_by_refusal m (write a w) = m
 left_by_refusal m (tag t) = pick (is_whole m.memory) (with_state m (noted_in m.state t)) m
 left_by_refusal m (download d words) = m
 
-abbrev pub outcome : Answer → Crate → Outcome
-outcome a s = record { answer = a; state = s }
-
--- the answer and the crate of a call
-abbrev pub outcome_of : Machine → Call → Outcome
-outcome_of m x = outcome (answer m x) (step m x).state
-
 -- "A power-up refused 1 returns the number with a power-up crate"
-unfoldable pub powered : List ℕ → Outcome
-powered memory = outcome (pick (is_whole memory) Done Memory) power_up
+unfoldable pub powered : List ℕ → Crate × Answer
+powered memory = (power_up, pick (is_whole memory) (Ok tt) (Err Memory))
 
 unfoldable pub powered_memory : List ℕ → List ℕ
 powered_memory memory = pick (is_whole memory) memory0 memory

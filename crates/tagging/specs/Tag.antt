@@ -1,15 +1,13 @@
 -- Document 01, "Writes and event tags", and the Manual's section 3.3: event tags.
-use Rattle.std.specs.Prelude.{ℕ, Bool, eqb}
+use Rattle.std.specs.Prelude.{ℕ, Bool, eqb, Ok}
 use Rattle.bools.specs.Pick.{pick}
 use Rattle.words.specs.Word.{bit, field_of}
 use Rattle.counters.specs.Counter.{clear_counters}
 use Rattle.gates.specs.Gate.{each_gate, with_prepare_pulse, with_recover_pulse}
-use Rattle.device.specs.declared.answer.Answer.{Answer}
-use Rattle.device.specs.declared.answer.Answer.TheVariants.{Done}
 use Rattle.device.specs.declared.state.Common.{Common}
 use Rattle.device.specs.declared.state.Crate.{Crate}
 use Rattle.device.specs.declared.state.Events.{Events}
-use Rattle.device.specs.Answer.{is_done}
+use Rattle.device.specs.Answer.{Answer, is_done}
 use Rattle.device.specs.State.{events_of, with_common, with_counters, with_events, with_gates, with_rest}
 use Rattle.writing.specs.Write.{dataset_in, request_answer, requested}
 
@@ -55,5 +53,5 @@ tag_of s t = pick (events_on s.common) (pick (right_key s.common t) (commanded (
 unfoldable pub tag_answer : Common → ℕ → Answer
 tag_answer cm t =
     pick (events_on cm)
-    (pick (right_key cm t) (pick (eqb (command_of t) 1) (request_answer cm.queue (dataset_in t)) Done) Done)
-    Done
+    (pick (right_key cm t) (pick (eqb (command_of t) 1) (request_answer cm.queue (dataset_in t)) (Ok tt)) (Ok tt))
+    (Ok tt)

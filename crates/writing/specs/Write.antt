@@ -1,5 +1,5 @@
 -- Document 01, "Writes and event tags": what a write answers and does.
-use Rattle.std.specs.Prelude.{ℕ, Bool, not, ◌&&◌, List, set}
+use Rattle.std.specs.Prelude.{ℕ, Bool, not, ◌&&◌, List, set, Ok, Err}
 use Rattle.bools.specs.Pick.{pick}
 use Rattle.words.specs.Word.{bit, field_of}
 use Rattle.counters.specs.declared.counter.Counter.{Counter}
@@ -9,21 +9,20 @@ use Rattle.counters.specs.Counter.{clear_counters, counter_at, reset_on, with_in
 use Rattle.gates.specs.Gate.{each_gate, gate_at, with_mode, with_prepare, with_recover, with_timeout}
 use Rattle.loader.specs.Loader.{is_beyond, is_full, pushed, request_for}
 use Rattle.watchdogs.specs.Watchdog.{reset_watchdogs}
-use Rattle.device.specs.declared.answer.Answer.{Answer}
-use Rattle.device.specs.declared.answer.Answer.TheVariants.{Done, Address, ReadOnly, Dataset, Full}
+use Rattle.device.specs.declared.answer.Refusal.TheVariants.{Address, ReadOnly, Dataset, Full}
 use Rattle.device.specs.declared.map.Register.{Register}
 use Rattle.device.specs.declared.map.Register.TheVariants.{Nothing, Readout, Other, Control, Mode, Timeout, Key, Enable, Reload, Prepare, Recover, Input, Group, Word}
 use Rattle.device.specs.declared.map.Setting.{Setting}
 use Rattle.device.specs.declared.map.Setting.TheVariants.{Mask, WatchdogTimeout, WatchdogReset, Selection}
 use Rattle.device.specs.declared.state.Common.{Common}
 use Rattle.device.specs.declared.state.Rest.{Rest}
-use Rattle.device.specs.Answer.{is_done}
+use Rattle.device.specs.Answer.{Answer, is_done}
 use Rattle.device.specs.Map.{kept}
 use Rattle.device.specs.State.{Machine, rest_of, with_common, with_counters, with_gates, with_groups, with_memory, with_queue, with_registers, with_rest, with_state}
 
 -- a request: "dataset above 31" 4, before "16 requests wait" 5
 unfoldable pub request_answer : Queue → ℕ → Answer
-request_answer q dataset = pick (is_beyond dataset) Dataset (pick (is_full q) Full Done)
+request_answer q dataset = pick (is_beyond dataset) (Err Dataset) (pick (is_full q) (Err Full) (Ok tt))
 
 -- the Manual's Tables 3.22 and 3.40: DATASET in bits 7-0, GROUP in 11-8, TRIGGER in 12
 abbrev pub dataset_in : ℕ → ℕ
@@ -44,7 +43,7 @@ abbrev pub triggers : ℕ → Common → Bool
 triggers w cm = trigger w && not (trigger cm.reload)
 
 unfoldable pub reload_answer : ℕ → Common → Answer
-reload_answer w cm = pick (triggers w cm) (request_answer cm.queue (dataset_in w)) Done
+reload_answer w cm = pick (triggers w cm) (request_answer cm.queue (dataset_in w)) (Ok tt)
 
 abbrev pub with_reload : ℕ → Common → Common
 with_reload w cm = with_registers cm cm.control cm.key cm.enable w
@@ -76,20 +75,20 @@ rest_write (Selection j) w r =
 
 -- cause 2, then 3, then for 0x0A02 those of a request
 unfoldable pub write_answer : Common → Register → ℕ → Answer
-write_answer cm Nothing w = Address
-write_answer cm (Readout r) w = ReadOnly
-write_answer cm (Other r) w = Done
-write_answer cm Control w = Done
-write_answer cm Mode w = Done
-write_answer cm (Timeout g) w = Done
-write_answer cm Key w = Done
-write_answer cm Enable w = Done
+write_answer cm Nothing w = Err Address
+write_answer cm (Readout r) w = Err ReadOnly
+write_answer cm (Other r) w = Ok tt
+write_answer cm Control w = Ok tt
+write_answer cm Mode w = Ok tt
+write_answer cm (Timeout g) w = Ok tt
+write_answer cm Key w = Ok tt
+write_answer cm Enable w = Ok tt
 write_answer cm Reload w = reload_answer w cm
-write_answer cm Prepare w = Done
-write_answer cm Recover w = Done
-write_answer cm (Input n) w = Done
-write_answer cm (Group k) w = Done
-write_answer cm (Word i) w = Done
+write_answer cm Prepare w = Ok tt
+write_answer cm Recover w = Ok tt
+write_answer cm (Input n) w = Ok tt
+write_answer cm (Group k) w = Ok tt
+write_answer cm (Word i) w = Ok tt
 
 -- "While RESET (bit 0) is set all counts are 0": from the write on
 unfoldable pub reset_by : ℕ → List Counter → List Counter
