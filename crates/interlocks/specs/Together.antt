@@ -1,34 +1,26 @@
 -- What the code keeps of the six scans while they go up together; no part of what is promised. For each output it keeps where its
--- scan ended: the number of words read by which it is 0, and 0 while it is 1.
-use Rattle.std.specs.Prelude.{ℕ, ◌+◌, ◌%◌, Bool, not, ◌&&◌, List, eqb, ltb, get_or}
+-- scan ended: the number of words read by which it is 0, and none while it is 1.
+use Rattle.std.specs.Prelude.{ℕ, List, Option, None, Some, get_or}
 use Rattle.bools.specs.Pick.{pick}
-use Rattle.lists.specs.Table.{any, each, least}
-use Rattle.counters.specs.declared.counter.Counter.{Counter}
-use Rattle.counters.specs.Counter.{is_out, overflow_word}
-use Rattle.device.specs.declared.state.Rest.{Rest}
+use Rattle.lists.specs.Table.{tabulate}
+use Rattle.device.specs.declared.state.Crate.{Crate}
 use Rattle.device.specs.Map.{output_words}
-use Rattle.interlocks.specs.Interlock.{meets, other_signals, output_count, selected, trips_by}
+use Rattle.interlocks.specs.Interlock.{meets, output_count, selected, trips}
+use Rattle.interlocks.specs.Scan.{words_read}
 
--- after all words, by the selection words of all outputs and the signals that each word chooses from
-abbrev pub ended_by : List ℕ → (ℕ → ℕ) → ℕ → ℕ
-ended_by selections present o =
-    pick (trips_by (selected selections o) present output_words) (least output_words (trips_by (selected selections o) present)) 0
+-- after all words
+abbrev pub ended_at : Crate → ℕ → Option ℕ
+ended_at s o = pick (trips s o output_words) (Some (words_read s o)) None
 
--- what word k chooses from, by the counters, the gate errors and what no counter sees
-unfoldable pub signals_by : List Counter → ℕ → Rest → ℕ → ℕ
-signals_by counters errors rest k = pick (ltb k 16) (overflow_word (is_out (ltb 7 k)) counters (k % 8)) (other_signals errors rest k)
-
--- after word k, from what was kept before it
-abbrev pub after_word : ℕ → ℕ → ℕ → ℕ → ℕ
-after_word chosen present k ended = pick (eqb ended 0 && meets chosen present) (k + 1) ended
+-- the word of an output that is read next, where its scan has not ended; no word, which selects nothing, where it has
+abbrev pub word_next : Option ℕ → ℕ → ℕ
+word_next None word = word
+word_next (Some w) word = 0
 
 -- word k of all outputs
-unfoldable pub after_words : List ℕ → ℕ → ℕ → List ℕ → List ℕ
-after_words selections present k = each output_count 0 (λ o. after_word (selected selections o k) present k)
+unfoldable pub words_next : List (Option ℕ) → List ℕ → ℕ → List ℕ
+words_next ended selections k = tabulate output_count (λ o. word_next (get_or ended o None) (selected selections o k))
 
--- an output that is still 1 selects something in its word k
-abbrev pub wants : ℕ → ℕ → Bool
-wants ended chosen = eqb ended 0 && not (eqb chosen 0)
-
-unfoldable pub any_wants : List ℕ → List ℕ → ℕ → Bool
-any_wants ended selections k = any output_count (λ o. wants (get_or ended o 0) (selected selections o k))
+-- where the scans ended, after the words read next and the signals that they choose from; so many words were read
+unfoldable pub ended_next : List (Option ℕ) → List ℕ → ℕ → ℕ → List (Option ℕ)
+ended_next ended words present read = tabulate output_count (λ o. pick (meets (get_or words o 0) present) (Some read) (get_or ended o None))

@@ -4,4 +4,4 @@
 mod scan;
 mod signals;
 
-pub use scan::{Scan, outputs, scan_outputs};
+pub use scan::{OutputScan, outputs, scan_outputs};

@@ -1,29 +1,29 @@
-// The signals past the overflows, and whether a selected one is present.
+// The signals that a selection word chooses from, and whether a selected one is present.
 ghost use Rattle.std.specs.Prelude.{◌≡◌};
-ghost use Rattle.interlocks.specs.Interlock.{low_gates, meets, other_signals};
+ghost use Rattle.interlocks.specs.Interlock.{low_gates, meets, signals};
 
-use device::Rest;
+use device::{Crate, Rest};
+use gates::Gate;
 
 // The gates whose input was low at the last accepted tick; all at power-up.
-fn low_gates(rest: Rest) -> u16
-    ensures { result ≡ low_gates rest }
+fn low_gates(rest: &Rest) -> u16
+    ensures { result ≡ low_gates rest.now }
 {
     0x0FFF ^ (0x0FFF & rest.gatelevels)
 }
 
-// The signals that selection word k of an output chooses from, past the overflows.
-#[tactic(auto, using(bools::proofs::Tests::tests))]
-pub fn other_signals(errors: u16, rest: Rest, k: usize) -> u16
-    ensures { result ≡ other_signals errors rest k }
+// The signals that selection word k of an output chooses from, in the order of the addresses.
+#[tactic(auto, using(bools::proofs::Tests::tests), unfolding(crate::specs::Interlock::signals))]
+pub fn signals(s: &Crate, k: usize) -> u16
+    ensures { result ≡ signals s.now k }
 {
-    if k < 17 {
-        return errors;
+    match k {
+        0x00..=0x07 => counters::overflow_word(&s.counters, false, k),
+        0x08..=0x0F => counters::overflow_word(&s.counters, true, k - 0x08),
+        0x10 => gates::gate_bits(&s.gates, Gate::failed),
+        0x11..=0x14 => watchdogs::error_word(&s.rest.watchdogs, k - 0x11),
+        _ => low_gates(&s.rest),
     }
-    if k < 21 {
-        let watchdogs = rest.watchdogs;
-        return watchdogs::error_word(watchdogs, k - 17);
-    }
-    low_gates(rest)
 }
 
 // Whether some signal is selected and present.
