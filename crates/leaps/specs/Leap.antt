@@ -6,7 +6,7 @@ use Rattle.counters.specs.Leap.{Ranged, leap_counters}
 use Rattle.gates.specs.Gate.{outputs_of}
 use Rattle.gate_leaps.specs.Leap.{horizon, leap_gates, steady_gates}
 use Rattle.lines.specs.Leap.{leap_phases, low_phases, rises_in}
-use Rattle.loader.specs.Loader.{is_empty}
+use Rattle.loader.specs.Loader.{busy, is_empty}
 use Rattle.watchdogs.specs.Leap.{leap_watchdogs}
 use Rattle.device.specs.declared.state.Common.{Common}
 use Rattle.device.specs.declared.state.Crate.{Crate}
@@ -42,7 +42,7 @@ leap_of k s gatelevels =
 -- the levels are those of the last tick, the loader is idle and no request waits, the phases are below 125,000, and no gate leaves its state
 unfoldable pub quiet : ℕ → Crate → ℕ → ℕ → Bool
 quiet k s inputs gatelevels =
-    (eqb s.levels inputs && not (s.common.loader.busy || not (is_empty s.common.queue)))
+    (eqb s.levels inputs && not (busy s.common.loader || not (is_empty s.common.queue)))
     && (low_phases s.common.phases && steady_gates k gatelevels s.gates)
 
 -- how many of the ticks left are made at once: fewer than 2^32 and as many as the timers of PREPARE allow, if these are quiet, else none

@@ -1,11 +1,11 @@
 -- Document 01, "Threshold memory and loader": requests, their queue, the loader.
-use Rattle.std.specs.Prelude.{ℕ, ◌+◌, ◌-◌, ◌/◌, ◌%◌, Bool, true, false, ◌&&◌, List, eqb, leb, ltb, get_or, set}
+use Rattle.std.specs.Prelude.{ℕ, ◌+◌, ◌-◌, ◌/◌, ◌%◌, Bool, Option, Some, None, is_some, List, eqb, leb, ltb, get_or, set}
 use Rattle.bools.specs.Pick.{pick}
 use Rattle.words.specs.Word.{nibble}
 use Rattle.lists.specs.Table.{tabulate}
 use Rattle.counters.specs.declared.counter.Counter.{Counter}
-use Rattle.loader.specs.declared.loader.Loader.{Loader}
 use Rattle.loader.specs.declared.loader.Queue.{Queue}
+use Rattle.loader.specs.declared.loader.Reload.{Reload}
 use Rattle.loader.specs.declared.loader.Request.{Request}
 use Rattle.counters.specs.Counter.{counter_at}
 use Rattle.loader.specs.Memory.{place_of, loaded}
@@ -49,35 +49,47 @@ shifted places = tabulate queue_places (λ i. get_or places (i + 1) request0)
 unfoldable pub dropped : Queue → Queue
 dropped q = queue_of (shifted q.places) (q.waiting - 1)
 
-abbrev pub loader_of : Bool → Request → ℕ → Loader
-loader_of busy r next = record { busy = busy; request = r; next = next }
-
-abbrev pub loader0 : Loader
-loader0 = loader_of false request0 0
-
 abbrev pub is_empty : Queue → Bool
 is_empty q = eqb q.waiting 0
 
--- "In a tick an idle loader takes the oldest; a busy one handles the next counter, 0 to 127, one a tick." "After 127 the loader is idle."
-unfoldable pub loader_step : Loader → Queue → Loader
-loader_step l q =
-    pick l.busy
-    (loader_of (ltb l.next 127) l.request (pick (ltb l.next 127) (l.next + 1) 0))
-    (pick (is_empty q) l (loader_of true (oldest q) 0))
+-- the request that a busy loader works on, and the counter that it handles in the next tick
+abbrev pub reload_of : Request → ℕ → Reload
+reload_of request next = record { request = request; next = next }
 
-unfoldable pub queue_step : Loader → Queue → Queue
-queue_step l q = pick l.busy q (pick (is_empty q) q (dropped q))
+-- an idle loader works on none
+abbrev pub loader0 : Option Reload
+loader0 = None
+
+abbrev pub busy : Option Reload → Bool
+busy l = is_some l
+
+-- the oldest request, where one waits
+abbrev pub taken : Queue → Option Request
+taken q = pick (is_empty q) None (Some (oldest q))
+
+abbrev pub left_of : Queue → Queue
+left_of q = pick (is_empty q) q (dropped q)
+
+-- "In a tick an idle loader takes the oldest; a busy one handles the next counter, 0 to 127, one a tick." "After 127 the loader is idle."
+unfoldable pub loader_step : Option Reload → Queue → Option Reload
+loader_step None q = pick (is_empty q) None (Some (reload_of (oldest q) 0))
+loader_step (Some l) q = pick (ltb l.next 127) (Some (reload_of l.request (l.next + 1))) None
+
+unfoldable pub queue_step : Option Reload → Queue → Queue
+queue_step None q = left_of q
+queue_step (Some l) q = q
 
 -- "Groups: 0x1600 onward, four bits a counter"
 unfoldable pub group_at : List ℕ → ℕ → ℕ
 group_at groups n = nibble (get_or groups (n / 4) 0) (n % 4)
 
--- "A counter whose group equals the request's takes its four words", where the loader is busy
-abbrev pub takes : Loader → ℕ → Bool
-takes l group = l.busy && eqb l.request.group group
+-- "A counter whose group equals the request's takes its four words"
+abbrev pub takes : Reload → ℕ → Bool
+takes l group = eqb l.request.group group
 
--- "from the dataset's part of the memory as it is then"
-unfoldable pub load_into : Loader → List ℕ → List ℕ → List Counter → List Counter
-load_into l groups memory counters =
+-- "from the dataset's part of the memory as it is then"; an idle loader loads none
+unfoldable pub load_into : Option Reload → List ℕ → List ℕ → List Counter → List Counter
+load_into None groups memory counters = counters
+load_into (Some l) groups memory counters =
     let n : ℕ = l.next in
     pick (takes l (group_at groups n)) (set counters n (loaded memory (place_of l.request.dataset n) (counter_at counters n))) counters

@@ -4,5 +4,5 @@
 mod loader;
 mod memory;
 
-pub use loader::{Loader, Queue, Request, group_at, load_into, queue_step};
+pub use loader::{Queue, Reload, Request, group_at, load_into, step_loader};
 pub use memory::{clear_memory, download, load};

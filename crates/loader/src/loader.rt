@@ -1,7 +1,7 @@
 // Requests for a reload, the queue in which they wait, and the loader that works them off.
-ghost use Rattle.std.specs.Prelude.{◌≡◌, ◌+◌, ◌<◌, length, slice_index_or};
+ghost use Rattle.std.specs.Prelude.{◌≡◌, ◌+◌, ◌<◌, slice_index_or};
 ghost use Rattle.words.specs.Word.{field_of};
-ghost use Rattle.loader.specs.Loader.{pushed, oldest as loader_oldest, request0, request_for, shifted, dropped, loader_step, queue_step, group_at, takes, load_into};
+ghost use Rattle.loader.specs.Loader.{pushed, taken, left_of, queue0, request0, request_for, shifted, loader_step, queue_step, group_at, load_into};
 
 use counters::Counter;
 use std::array;
@@ -30,6 +30,17 @@ impl Request {
     }
 }
 
+impl Default for Request {
+    ghost is_default = { λ r. r ≡ request0 };
+
+    fn default() -> Request {
+        Request {
+            dataset: 0,
+            group: 0,
+        }
+    }
+}
+
 // The first `waiting` places hold requests, the oldest first.
 #[derive(Clone, Copy)]
 pub struct Queue {
@@ -37,31 +48,40 @@ pub struct Queue {
     pub waiting: u16,
 }
 
-// While busy it works on the request and handles counter `next` in the next tick.
+// A reload at work: the request, and the counter that is handled in the next tick.
 #[derive(Clone, Copy)]
-pub struct Loader {
-    pub busy: bool,
+pub struct Reload {
     pub request: Request,
     pub next: u16,
 }
 
+impl Default for Queue {
+    ghost is_default = { λ q. q ≡ queue0 };
+
+    #[tactic(auto, unfolding(lists::specs::Table::tabulate, lists::specs::Table::table_from))]
+    fn default() -> Queue {
+        Queue {
+            places: [Request::default(); 16],
+            waiting: 0,
+        }
+    }
+}
+
 // The request behind place i, and an empty one behind the last.
-fn behind(places: [Request; 16], i: usize) -> Request
+fn behind(places: &[Request; 16], i: usize) -> Request
     requires { i < 16 }
-    ensures { result ≡ slice_index_or places (i + 1) request0 }
+    ensures { result ≡ slice_index_or places.now (i + 1) request0 }
 {
     if i < 15 {
-        return places[i + 1];
-    }
-    Request {
-        dataset: 0,
-        group: 0,
+        places[i + 1]
+    } else {
+        Request::default()
     }
 }
 
 // Every request one place forward; the last place is empty.
-fn shift(places: [Request; 16]) -> [Request; 16]
-    ensures { result ≡ shifted places }
+fn shift(places: &[Request; 16]) -> [Request; 16]
+    ensures { result ≡ shifted places.now }
 {
     array::from_fn(|i| behind(places, i))
 }
@@ -69,103 +89,65 @@ fn shift(places: [Request; 16]) -> [Request; 16]
 impl Queue {
     // A request behind those that wait.
     #[tactic(auto, unfolding(crate::specs::Loader::pushed))]
-    pub fn push(mut self, request: Request) -> Queue
-        requires { self.waiting < 16 }
-        ensures { result ≡ pushed self request }
+    pub fn push(&mut self, request: Request)
+        requires { self.old.waiting < 16 }
+        ensures { self.new ≡ pushed self.old request }
     {
         self.places[self.waiting as usize] = request;
         self.waiting += 1;
-        self
     }
 
-    // The oldest request.
-    #[tactic(auto, unfolding(crate::specs::Loader::oldest))]
-    pub fn oldest(self) -> Request
-        ensures { result ≡ loader_oldest self }
+    // The oldest request leaves the queue, where one waits.
+    #[tactic(auto, unfolding(crate::specs::Loader::oldest, crate::specs::Loader::dropped))]
+    pub fn take(&mut self) -> Option<Request>
+        ensures { (result ≡ taken self.old) × (self.new ≡ left_of self.old) }
     {
-        self.places[0]
-    }
-
-    // The queue without its oldest request.
-    #[tactic(auto, unfolding(crate::specs::Loader::dropped))]
-    fn drop_oldest(self) -> Queue
-        ensures { result ≡ dropped self }
-    {
-        Queue {
-            places: shift(self.places),
-            waiting: self.waiting.saturating_sub(1),
+        if self.waiting == 0 {
+            return None;
         }
+        let oldest = self.places[0];
+        self.places = shift(&self.places);
+        self.waiting -= 1;
+        Some(oldest)
     }
 }
 
-impl Loader {
-    // One tick: an idle loader takes the oldest request, a busy one handles the next counter.
-    #[tactic(auto, unfolding(crate::specs::Loader::loader_step))]
-    pub fn step(self, queue: Queue) -> Loader
-        ensures { result ≡ loader_step self queue }
-    {
-        let request = self.request;
-        if self.busy {
-            if self.next < 127 {
-                return Loader {
-                    busy: true,
-                    request,
-                    next: self.next + 1,
-                };
-            }
-            return Loader {
-                busy: false,
-                request,
-                next: 0,
-            };
-        }
-        if queue.waiting == 0 {
-            return self;
-        }
-        Loader {
-            busy: true,
-            request: queue.oldest(),
-            next: 0,
-        }
-    }
-}
-
-// The queue after a tick of the loader.
-#[tactic(auto, unfolding(crate::specs::Loader::queue_step))]
-pub fn queue_step(loader: Loader, queue: Queue) -> Queue
-    ensures { result ≡ queue_step loader queue }
+// One tick: an idle loader takes the oldest request, a busy one handles the next counter.
+#[tactic(auto, unfolding(crate::specs::Loader::loader_step, crate::specs::Loader::queue_step))]
+pub fn step_loader(loader: &mut Option<Reload>, queue: &mut Queue)
+    ensures { (loader.new ≡ loader_step loader.old queue.old) × (queue.new ≡ queue_step loader.old queue.old) }
 {
-    if loader.busy || queue.waiting == 0 {
-        return queue;
+    match loader {
+        Some(reload) if reload.next < 127 => reload.next += 1,
+        Some(_) => *loader = None,
+        None => *loader = queue.take().map(|request| Reload { request, next: 0 }),
     }
-    queue.drop_oldest()
 }
 
 // The group of counter n: four bits of register n / 4.
 #[tactic(auto, unfolding(crate::specs::Loader::group_at))]
-pub fn group_at(groups: [u16; 32], n: usize) -> u16
+pub fn group_at(groups: &[u16; 32], n: usize) -> u16
     requires { n < 128 }
-    ensures { result ≡ group_at groups n }
+    ensures { result ≡ group_at groups.now n }
 {
     words::nibble(groups[n / 4], (n % 4) as u32)
 }
 
-// The counters after the loader's tick: the one handled takes its four words if it is of the request's group.
+// The loader's tick on the counters: the one that a busy loader handles takes its four words if it is of the request's group.
 #[tactic(auto, unfolding(crate::specs::Loader::load_into, counters::specs::Counter::counter_at))]
 pub fn load_into(
-    loader: Loader,
-    groups: [u16; 32],
-    mem: &[u16],
-    mut counters: [Counter; 128],
-) -> [Counter; 128]
-    requires { length mem.now ≡ 16384 }
-    ensures { result ≡ load_into loader groups mem.now counters }
+    loader: Option<Reload>,
+    groups: &[u16; 32],
+    mem: &[u16; 16384],
+    counters: &mut [Counter; 128],
+)
+    ensures { counters.new ≡ load_into loader groups.now mem.now counters.old }
 {
-    let n = loader.next as usize;
-    let request = loader.request;
-    if !loader.busy || 128 <= n || request.group != group_at(groups, n) {
-        return counters;
+    let Some(Reload { request, next }) = loader else {
+        return;
+    };
+    let n = next as usize;
+    if n < 128 && request.group == group_at(groups, n) {
+        counters[n] = crate::memory::load(mem, request.dataset as usize, n, counters[n]);
     }
-    counters[n] = crate::memory::load(mem, request.dataset as usize, n, counters[n]);
-    counters
 }

@@ -1,7 +1,7 @@
 // Threshold memory: 16,384 lent words, 32 datasets of 512. A part of it is handed on to be read or written.
 ghost use Rattle.std.specs.Prelude.{◌≡◌, ◌+◌, ◌*◌, ◌<◌, length};
 ghost use Rattle.lists.specs.Table.{tabulate};
-ghost use Rattle.loader.specs.Memory.{place_of, loaded, replaced};
+ghost use Rattle.loader.specs.Memory.{memory_words, place_of, loaded, replaced};
 
 use counters::Counter;
 
@@ -18,8 +18,8 @@ fn load_from(part: &[u16], n: usize, c: Counter) -> Counter
 }
 
 // A counter with the thresholds of counter n in a dataset; there are 32, and any other reads 0.
-pub fn load(mem: &[u16], dataset: usize, n: usize, c: Counter) -> Counter
-    requires { (length mem.now ≡ 16384) × (n < 128) }
+pub fn load(mem: &[u16; 16384], dataset: usize, n: usize, c: Counter) -> Counter
+    requires { n < 128 }
     ensures { result ≡ loaded mem.now (place_of dataset n) c }
 {
     if dataset < 32 {
@@ -32,8 +32,8 @@ pub fn load(mem: &[u16], dataset: usize, n: usize, c: Counter) -> Counter
 
 // 512 words over one dataset; every other word stays.
 #[tactic(auto, unfolding(crate::specs::Memory::replaced))]
-pub fn download(mem: &mut [u16], dataset: usize, words: &[u16])
-    requires { (length mem.old ≡ 16384) × (length words.now ≡ 512) × (dataset < 32) }
+pub fn download(mem: &mut [u16; 16384], dataset: usize, words: &[u16; 512])
+    requires { dataset < 32 }
     ensures { mem.new ≡ replaced mem.old (512 * dataset) words.now }
 {
     let base = 512 * dataset;
@@ -42,8 +42,8 @@ pub fn download(mem: &mut [u16], dataset: usize, words: &[u16])
 }
 
 // Every word 0.
-pub fn clear_memory(mem: &mut [u16])
-    ensures { mem.new ≡ tabulate (length mem.old) (λ a. 0) }
+pub fn clear_memory(mem: &mut [u16; 16384])
+    ensures { mem.new ≡ tabulate memory_words (λ a. 0) }
 {
     mem.fill(0);
 }

@@ -1,8 +1,7 @@
 -- Document 01, "Threshold memory and loader": the order within a tick.
-use Rattle.std.specs.Prelude.{ℕ, List}
-use Rattle.bools.specs.Pick.{pick}
+use Rattle.std.specs.Prelude.{ℕ, Option, Some, None, List}
 use Rattle.gates.specs.declared.gate.Gate.{Gate}
-use Rattle.loader.specs.declared.loader.Loader.{Loader}
+use Rattle.loader.specs.declared.loader.Reload.{Reload}
 use Rattle.counters.specs.Counter.{tick_counters}
 use Rattle.gates.specs.Gate.{gate_step, each_gate, outputs_of}
 use Rattle.lines.specs.Lines.{rises_of, step_phases}
@@ -24,11 +23,15 @@ common_tick cm =
     (step_phases cm.phases)
 
 -- 0x0904: "the last counter handled"
-abbrev pub handled_by : Loader → Events → Events
-handled_by l e = events_of e.low e.high e.code (pick l.busy l.next e.handled)
+abbrev pub last_handled : Option Reload → ℕ → ℕ
+last_handled None before = before
+last_handled (Some l) before = l.next
+
+abbrev pub handled_by : Option Reload → Events → Events
+handled_by l e = events_of e.low e.high e.code (last_handled l e.handled)
 
 -- what no counter sees, with the raw counts as they are after the tick
-unfoldable pub rest_tick : Rest → List ℕ → ℕ → ℕ → Loader → Rest
+unfoldable pub rest_tick : Rest → List ℕ → ℕ → ℕ → Option Reload → Rest
 rest_tick r rawcounts rises gatelevels l =
     rest_of r.masks r.timeout r.selections (step_watchdogs r.timeout rises r.watchdogs) rawcounts gatelevels (handled_by l r.events)
 
