@@ -6,10 +6,11 @@ ghost use Rattle.records.specs.Stops.{stop_number};
 
 mod records;
 
+use lines::Levels;
 pub use records::{next_at, record_at};
 
 // Why a run ends. Of the refusals specs/Stops.antt has the numbers.
-#[derive(Clone, Copy)]
+#[derive(Clone, Copy, PartialEq, Eq)]
 pub enum Stop {
     End,
     Spent,
@@ -20,12 +21,12 @@ pub enum Stop {
     NoRepeat,
 }
 
-impl Stop {
-    // The number of the table of causes, 0 for END and SPENT, which are no refusals.
-    pub fn number(self) -> u16
-        ensures { result ≡ stop_number self }
-    {
-        match self {
+// The number of the table of causes, 0 for END and SPENT, which are no refusals.
+impl From<Stop> for u16 {
+    ghost from_gives = { λ stop number. number ≡ stop_number stop };
+
+    fn from(stop: Stop) -> u16 {
+        match stop {
             Stop::End => 0,
             Stop::Spent => 0,
             Stop::Memory => 1,
@@ -37,13 +38,11 @@ impl Stop {
     }
 }
 
-// What stands at an offset of a trace: nothing, a malformed record, or a record.
+// A record of a trace.
 #[derive(Clone, Copy)]
 pub enum Record {
-    AtEnd,
-    Malformed(Stop),
-    // a repeat, the levels of the inputs and of the gates
-    Ticks(u64, u64, u16),
+    // a repeat, and the levels
+    Ticks(u64, Levels),
     // an address and a word
     Write(u16, u16),
     // an event tag
