@@ -41,13 +41,17 @@ tick_bytes width = width + (input_bytes + gate_bytes)
 unfoldable pub levels_at : List ℕ → ℕ → Levels
 levels_at t at = record { inputs = number_at t at input_bytes; gates = number_at t (at + input_bytes) gate_bytes }
 
+-- what stands at an offset: a record, or why a run stops before it
+abbrev pub Found : Type 0
+Found = Result Record Stop
+
 -- cause 10: "repeat 0"
-unfoldable pub ticks_at : ℕ → List ℕ → ℕ → Result Record Stop
+unfoldable pub ticks_at : ℕ → List ℕ → ℕ → Found
 ticks_at width t at =
     pick (eqb (number_at t at width) 0) (Err NoRepeat) (Ok (Ticks (number_at t at width) (levels_at t (at + width))))
 
 -- "0x02, 4 bytes: address, word. 0x03, 4 bytes: an event tag."
-unfoldable pub payload_at : ℕ → List ℕ → ℕ → Result Record Stop
+unfoldable pub payload_at : ℕ → List ℕ → ℕ → Found
 payload_at tag t at =
     pick (eqb tag 1) (ticks_at repeat_bytes t at)
     (pick (eqb tag 2) (Ok (Write (number_at t at 2) (number_at t (at + 2) 2))) (Ok (Tag (number_at t at 4))))
@@ -58,8 +62,8 @@ is_known tag = leb 1 tag && leb tag 3
 abbrev pub payload_bytes : ℕ → ℕ
 payload_bytes tag = pick (eqb tag 1) (tick_bytes repeat_bytes) 4
 
--- the record that stands there, or why a run stops before it; "In a record: header cut, 7, 8, payload cut, 10"
-unfoldable pub record_at : List ℕ → ℕ → Result Record Stop
+-- "In a record: header cut, 7, 8, payload cut, 10"
+unfoldable pub record_at : List ℕ → ℕ → Found
 record_at t at =
     let left : ℕ = length t - at in
     pick (eqb left 0) (Err End)

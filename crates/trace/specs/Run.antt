@@ -1,5 +1,5 @@
 -- Document 01, "Trace and printing program": the run of a trace with a budget of ticks, and its report.
-use Rattle.std.specs.Prelude.{ℕ, zero, suc, ◌+◌, ◌-◌, Bool, true, false, List, [], ◌∷◌, ltb, length}
+use Rattle.std.specs.Prelude.{ℕ, zero, suc, ◌+◌, ◌-◌, Bool, true, false, List, [], ◌∷◌, Result, Ok, Err, ltb, length}
 use Rattle.bools.specs.Pick.{pick}
 use Rattle.words.specs.Word.{bit_of}
 use Rattle.lists.specs.Table.{tabulate}
@@ -8,17 +8,21 @@ use Rattle.loader.specs.Memory.{is_whole}
 use Rattle.registers.specs.Calls.{Call, tick, write, tag, from, is_refused}
 use Rattle.device.specs.State.{Machine, machine}
 use Rattle.lines.specs.Lines.{bad_levels}
-use Rattle.trace.specs.declared.Progress.{Progress}
-use Rattle.records.specs.declared.Record.{Record}
-use Rattle.records.specs.declared.Record.TheVariants.{AtEnd, Malformed, Ticks, Write, Tag}
+use Rattle.records.specs.declared.Record.TheVariants.{Ticks, Write, Tag}
 use Rattle.trace.specs.declared.Report.{Report}
 use Rattle.records.specs.declared.Stop.{Stop}
 use Rattle.records.specs.declared.Stop.TheVariants.{End, Spent, Memory}
-use Rattle.records.specs.Records.{next_at, record_at}
+use Rattle.records.specs.Records.{Found, next_at, record_at}
 
 -- "stop cause, offset of the next record, ticks, records passed (refused ones included), records refused"
 abbrev pub report_of : Stop → ℕ → ℕ → ℕ → ℕ → Report
 report_of stop next ticks records refused = record { stop = stop; next = next; ticks = ticks; records = records; refused = refused }
+
+-- the crate and the report so far, and whether the run goes on
+pub record Progress : Type 0 where
+  pub state : Crate
+  pub report : Report
+  pub going : Bool
 
 abbrev pub progress_of : Crate → Report → Bool → Progress
 progress_of s r going = record { state = s; report = r; going = going }
@@ -67,12 +71,11 @@ ticks_in t budget r n inputs gates =
 unfoldable pub call_in : List ℕ → Run → Call → Run
 call_in t r x = passes t r (one x) 0 (is_refused (machine_of r) x)
 
-unfoldable pub by_record : List ℕ → ℕ → Record → Run → Run
-by_record t budget AtEnd r = stops_by End r
-by_record t budget (Malformed stop) r = stops_by stop r
-by_record t budget (Ticks n inputs gates) r = ticks_in t budget r n inputs gates
-by_record t budget (Write a w) r = call_in t r (write a w)
-by_record t budget (Tag e) r = call_in t r (tag e)
+unfoldable pub by_record : List ℕ → ℕ → Found → Run → Run
+by_record t budget (Err stop) r = stops_by stop r
+by_record t budget (Ok (Ticks n levels)) r = ticks_in t budget r n levels.inputs levels.gates
+by_record t budget (Ok (Write a w)) r = call_in t r (write a w)
+by_record t budget (Ok (Tag e)) r = call_in t r (tag e)
 
 unfoldable pub once_of : List ℕ → ℕ → Run → Run
 once_of t budget r = by_record t budget (record_at t r.progress.report.next) r

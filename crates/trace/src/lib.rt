@@ -3,7 +3,6 @@
 
 mod running;
 
-use device::Crate;
 use records::Stop;
 pub use running::run;
 
@@ -15,12 +14,4 @@ pub struct Report {
     pub ticks: u64,
     pub records: usize,
     pub refused: usize,
-}
-
-// A run on its way: the crate and the report so far, and whether the run goes on.
-#[derive(Clone, Copy)]
-pub struct Progress {
-    pub state: Crate,
-    pub report: Report,
-    pub going: bool,
 }

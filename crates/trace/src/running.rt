@@ -1,203 +1,160 @@
 // The run of a trace: record by record, with a budget of ticks.
-ghost use Rattle.std.specs.Prelude.{true, false, not, ◌≡◌, ◌+◌, ◌-◌, ◌^◌, ◌<◌, ◌≤◌};
-ghost use Rattle.device.specs.Answer.{is_done};
+ghost use Rattle.std.specs.Prelude.{true, ◌≡◌, ◌+◌, ◌-◌, ◌^◌, ◌<◌, ◌≤◌};
 ghost use Rattle.registers.specs.Calls.{from};
-ghost use Rattle.registers.specs.Calls.{tick as call_tick, write as call_write, tag as call_tag};
+ghost use Rattle.registers.specs.Calls.{tick as call_tick};
 ghost use Rattle.device.specs.State.{machine};
 ghost use Rattle.trace.specs.Leaping.{SameEnd};
-ghost use Rattle.trace.specs.Run.{call_in, once_of, passed, progress_of, repeated, run_of, stopped, ticks_in};
+ghost use Rattle.trace.specs.Run.{once_of, passed, progress_of, repeated, report_of, run_of, ticks_in};
 ghost use Rattle.trace.specs.Run.{run as run_run};
 ghost use Rattle.trace.specs.Sound.{Room, Sound};
+ghost use Rattle.trace.specs.Turns.{SameTrace, reported, so_far, turned};
 
-use crate::{Progress, Report};
-use device::{Answer, Crate};
+use crate::Report;
+use device::Crate;
+use lines::Levels;
 use records::{Record, Stop};
-
-// A refusal counts once.
-fn is_refusal(answer: Answer) -> bool
-    ensures { result ≡ not (is_done answer) }
-{
-    !matches!(answer, Answer::Done)
-}
-
-// The run stops before a record: all but the stop is kept.
-fn stop_by(mut p: Progress, stop: Stop) -> Progress
-    ensures { result ≡ progress_of p.state (stopped p.report stop) false }
-{
-    p.report.stop = stop;
-    p.going = false;
-    p
-}
-
-// The run goes on behind a record.
-fn go_on(state: Crate, report: Report) -> Progress
-    ensures { result ≡ progress_of state report true }
-{
-    Progress {
-        state,
-        report,
-        going: true,
-    }
-}
-
-// The report after one record more.
-fn pass(mut r: Report, t: &[u8], ticks: u64, refused: bool) -> Report
-    requires { Room t.now r × (r.ticks + ticks < 2 ^ 64) }
-    ensures { result ≡ passed t.now r ticks refused }
-{
-    r.next = records::next_at(t, r.next);
-    r.ticks += ticks;
-    r.records += 1;
-    r.refused += usize::from(refused);
-    r
-}
-
-// The crate, and the ticks still to be made.
-#[derive(Clone, Copy)]
-struct Ahead {
-    state: Crate,
-    left: u64,
-}
 
 // A leap costs about two ticks, so it is tried where more than that are left.
 const WORTH: u64 = 4;
 
 // What is left of so many ticks at the same levels, after a quiet stretch of them at once.
-fn leap_on(state: Crate, left: u64, inputs: u64, gates: u16) -> Ahead
-    ensures { (result.left ≤ left) × SameEnd inputs gates state left result.state result.left }
+fn leap_on(state: &mut Crate, left: u64, levels: Levels) -> u64
+    ensures { (result ≤ left) × SameEnd levels.inputs levels.gates state.old left state.new result }
 {
-    let k = leaps::stretch(state, left, inputs, gates);
+    let k = leaps::stretch(state, left, levels);
     if k == 0 {
-        return Ahead { state, left };
+        return left;
     }
-    let next = leaps::leap(state, k, gates);
-    Ahead {
-        state: next,
-        left: left - (k as u64),
-    }
+    leaps::leap(state, k, levels.gates);
+    left - u64::from(k)
 }
 
 // So many ticks at the same levels: a tick, and then the quiet ticks behind it at once. At the levels of the last tick the first may be quiet too.
-fn tick_on(state: Crate, mem: &[u16], n: u64, inputs: u64, gates: u16) -> Crate
-    ensures { machine result mem.now ≡ from (machine state mem.now) (repeated n (call_tick inputs gates)) }
+fn tick_on(state: &mut Crate, mem: &[u16], n: u64, levels: Levels)
+    ensures { machine state.new mem.now ≡ from (machine state.old mem.now) (repeated n (call_tick levels.inputs levels.gates)) }
 {
     if mem.len() != 16384 {
-        return state;
+        return;
     }
-    if lines::bad_levels(inputs, gates) {
-        return state;
+    if levels.are_bad() {
+        return;
     }
-    let mut on = state;
     let mut left = n;
-    if bools::both(on.levels == inputs, WORTH <= left) {
-        let ahead = leap_on(on, left, inputs, gates);
-        on = ahead.state;
-        left = ahead.left;
+    if bools::both(state.levels == levels.inputs, WORTH <= left) {
+        left = leap_on(state, left, levels);
     }
     // no turn is counted: what is left falls by a tick, and then by a stretch
     while 0 < left {
-        let outcome = registers::tick(on, mem, inputs, gates);
-        on = outcome.state;
+        // neither the memory nor the levels refuse it
+        let _answer = registers::tick(state, mem, levels);
         left -= 1;
-        if bools::either(left < WORTH, on.common.loader.busy) {
+        if bools::either(left < WORTH, state.common.loader.is_some()) {
             continue;
         }
-        let ahead = leap_on(on, left, inputs, gates);
-        on = ahead.state;
-        left = ahead.left;
+        left = leap_on(state, left, levels);
     }
-    on
 }
 
-// A tick record: refused by its levels, or too long for the ticks left, or so many ticks.
-fn run_ticks(
-    p: Progress,
-    mem: &[u16],
-    t: &[u8],
+// A run on its way: the trace, the budget of ticks, and the numbers of its report so far.
+struct Running<'a> {
+    trace: &'a [u8],
     budget: u64,
-    n: u64,
-    inputs: u64,
-    gates: u16,
-) -> Progress
-    requires { Room t.now p.report × (p.report.ticks ≤ budget) }
-    ensures { run_run result mem.now ≡ ticks_in t.now budget (run_run p mem.now) n inputs gates }
-{
-    let refused = lines::bad_levels(inputs, gates);
-    // levels come before the budget: a record that they refuse is passed
-    if bools::without(budget - p.report.ticks < n, refused) {
-        return stop_by(p, Stop::Spent);
+    next: usize,
+    ticks: u64,
+    records: usize,
+    refused: usize,
+}
+
+impl<'a> Running<'a> {
+    fn new(trace: &'a [u8], budget: u64) -> Running<'a>
+        ensures { (so_far result ≡ report_of End 0 0 0 0) × (result.trace.now ≡ trace.now) × (result.budget ≡ budget) }
+    {
+        Running {
+            trace,
+            budget,
+            next: 0,
+            ticks: 0,
+            records: 0,
+            refused: 0,
+        }
     }
-    if refused {
-        let report = pass(p.report, t, 0, true);
-        return go_on(p.state, report);
+
+    // The report of a run that stops here.
+    fn report(&self, stop: Stop) -> Report
+        ensures { result ≡ reported self.now stop }
+    {
+        Report {
+            stop,
+            next: self.next,
+            ticks: self.ticks,
+            records: self.records,
+            refused: self.refused,
+        }
     }
-    let state = tick_on(p.state, mem, n, inputs, gates);
-    let report = pass(p.report, t, n, false);
-    go_on(state, report)
-}
 
-// A write record.
-#[tactic(auto, unfolding(crate::specs::Run::call_in, crate::specs::Run::passes, registers::specs::Calls::from))]
-fn run_write(p: Progress, mem: &mut [u16], t: &[u8], address: u16, word: u16) -> Progress
-    requires { Room t.now p.report }
-    ensures { run_run result mem.new ≡ call_in t.now (run_run p mem.old) (call_write address word) }
-{
-    let outcome = registers::write(p.state, mem, address, word);
-    let answer = outcome.answer;
-    let refused = is_refusal(answer);
-    let report = pass(p.report, t, 0, refused);
-    go_on(outcome.state, report)
-}
+    // The record at the next offset is passed.
+    fn pass(&mut self, ticks: u64, refused: bool)
+        requires { Room self.old.trace.now (so_far self.old) × (self.old.ticks + ticks < 2 ^ 64) }
+        ensures { (so_far self.new ≡ passed self.old.trace.now (so_far self.old) ticks refused) × SameTrace self.old self.new }
+    {
+        self.next = records::next_at(self.trace, self.next);
+        self.ticks += ticks;
+        self.records += 1;
+        self.refused += usize::from(refused);
+    }
 
-// A record of an event tag.
-#[tactic(auto, unfolding(crate::specs::Run::call_in, crate::specs::Run::passes, registers::specs::Calls::from))]
-fn run_tag(p: Progress, mem: &[u16], t: &[u8], tag: u32) -> Progress
-    requires { Room t.now p.report }
-    ensures { run_run result mem.now ≡ call_in t.now (run_run p mem.now) (call_tag tag) }
-{
-    let outcome = registers::tag(p.state, mem, tag);
-    let answer = outcome.answer;
-    let refused = is_refusal(answer);
-    let report = pass(p.report, t, 0, refused);
-    go_on(outcome.state, report)
-}
+    // A tick record: refused by its levels, or too long for the ticks left, or so many ticks.
+    fn run_ticks(&mut self, state: &mut Crate, mem: &[u16], n: u64, levels: Levels) -> Result<(), Stop>
+        requires { Room self.old.trace.now (so_far self.old) × (self.old.ticks ≤ self.old.budget) }
+        ensures {
+            (run_run (turned result state.new (so_far self.new)) mem.now ≡ ticks_in self.old.trace.now self.old.budget (run_run (progress_of state.old (so_far self.old) true) mem.now) n levels.inputs levels.gates)
+            × SameTrace self.old self.new
+        }
+    {
+        // levels come before the budget: a record that they refuse is passed
+        if levels.are_bad() {
+            self.pass(0, true);
+            return Ok(());
+        }
+        if self.budget - self.ticks < n {
+            return Err(Stop::Spent);
+        }
+        tick_on(state, mem, n, levels);
+        self.pass(n, false);
+        Ok(())
+    }
 
-// One record: what it does, or why the run stops before it.
-fn once(p: Progress, mem: &mut [u16], t: &[u8], budget: u64) -> Progress
-    requires { Sound t.now budget p.report }
-    ensures { run_run result mem.new ≡ once_of t.now budget (run_run p mem.old) }
-{
-    let record = records::record_at(t, p.report.next);
-    match record {
-        Record::AtEnd => stop_by(p, Stop::End),
-        Record::Malformed(stop) => stop_by(p, stop),
-        Record::Ticks(n, inputs, gates) => run_ticks(p, mem, t, budget, n, inputs, gates),
-        Record::Write(address, word) => run_write(p, mem, t, address, word),
-        Record::Tag(tag) => run_tag(p, mem, t, tag),
+    // One record: what it does, or why the run stops before it.
+    fn once(&mut self, state: &mut Crate, mem: &mut [u16]) -> Result<(), Stop>
+        requires { Sound self.old.trace.now self.old.budget (so_far self.old) }
+        ensures {
+            (run_run (turned result state.new (so_far self.new)) mem.new ≡ once_of self.old.trace.now self.old.budget (run_run (progress_of state.old (so_far self.old) true) mem.old))
+            × SameTrace self.old self.new
+        }
+    {
+        let answer = match records::record_at(self.trace, self.next)? {
+            Record::Ticks(n, levels) => return self.run_ticks(state, mem, n, levels),
+            Record::Write(address, word) => registers::write(state, mem, address, word),
+            Record::Tag(tag) => registers::tag(state, mem, tag),
+        };
+        // a refusal counts once, and the run goes on
+        self.pass(0, answer.is_err());
+        Ok(())
     }
 }
 
 // The run of a trace on a crate and its memory, with a budget of ticks.
-pub fn run(state: Crate, mem: &mut [u16], trace: &[u8], budget: u64) -> Progress
-    ensures { run_run result mem.new ≡ run_of trace.now budget (machine state mem.old) }
+pub fn run(state: &mut Crate, mem: &mut [u16], trace: &[u8], budget: u64) -> Report
+    ensures { run_run (progress_of state.new result false) mem.new ≡ run_of trace.now budget (machine state.old mem.old) }
 {
-    let report = Report {
-        stop: Stop::End,
-        next: 0,
-        ticks: 0,
-        records: 0,
-        refused: 0,
-    };
-    let mut p = go_on(state, report);
+    let mut running = Running::new(trace, budget);
     if mem.len() != 16384 {
-        return stop_by(p, Stop::Memory);
+        return running.report(Stop::Memory);
     }
-    // every record moves the offset on, so there are no more turns than offsets
-    for _turn in 0..trace.len() + 1 {
-        if !p.going {
-            return p;
+    // each record moves the offset on, so a run stops at the end of the trace at the latest
+    loop {
+        if let Err(stop) = running.once(state, mem) {
+            return running.report(stop);
         }
-        p = once(p, mem, trace, budget);
     }
-    p
 }
