@@ -32,11 +32,11 @@ impl From<Refusal> for u16 {
 }
 
 // The number of an answer, 0 for an accepted call.
-pub fn number(answer: Result<(), Refusal>) -> u16
+pub fn number<T: Copy>(answer: Result<T, Refusal>) -> u16
     ensures { result ≡ number_of answer }
 {
     match answer {
-        Ok(()) => 0,
+        Ok(_) => 0,
         Err(cause) => cause.into(),
     }
 }

@@ -58,19 +58,11 @@ pub enum Setting {
 fn backplane_map(a: u16) -> Register
     ensures { result ≡ backplane_map a }
 {
-    if a < 0x0630 {
-        return Register::Nothing;
+    match a {
+        0x0630..=0x0635 => Register::Other(Setting::Mask(a - 0x0630)),
+        0x0638..=0x063D => Register::Readout(Status::Module(a - 0x0638)),
+        _ => Register::Nothing,
     }
-    if a < 0x0636 {
-        return Register::Other(Setting::Mask(a - 0x0630));
-    }
-    if a < 0x0638 {
-        return Register::Nothing;
-    }
-    if a < 0x063E {
-        return Register::Readout(Status::Module(a - 0x0638));
-    }
-    Register::Nothing
 }
 
 // 0x0700 to 0x07FF.
@@ -79,101 +71,55 @@ fn status_map(a: u16) -> Register
     requires { 0x0700 ≤ a }
     ensures { result ≡ status_map a }
 {
-    if a < 0x0708 {
-        return Register::Readout(Status::Negative(a - 0x0700));
-    }
-    if a < 0x0710 {
-        return Register::Readout(Status::Positive(a - 0x0708));
-    }
-    if a < 0x0711 {
-        return Register::Readout(Status::GateErrors);
-    }
-    if a < 0x0715 {
-        return Register::Readout(Status::WatchdogErrors(a - 0x0711));
-    }
-    if a < 0x0717 {
-        return Register::Nothing;
-    }
-    if a < 0x0718 {
-        return Register::Readout(Status::GateInputs);
-    }
-    if a < 0x0719 {
-        return Register::Readout(Status::GateOutputs);
-    }
-    if a < 0x071A {
-        return Register::Readout(Status::Outputs);
-    }
-    if a < 0x071D {
-        return Register::Readout(Status::GateStates(a - 0x071A));
-    }
-    Register::Nothing
+    let status = match a {
+        0x0700..=0x0707 => Status::Negative(a - 0x0700),
+        0x0708..=0x070F => Status::Positive(a - 0x0708),
+        0x0710 => Status::GateErrors,
+        0x0711..=0x0714 => Status::WatchdogErrors(a - 0x0711),
+        0x0717 => Status::GateInputs,
+        0x0718 => Status::GateOutputs,
+        0x0719 => Status::Outputs,
+        0x071A..=0x071C => Status::GateStates(a - 0x071A),
+        _ => return Register::Nothing,
+    };
+    Register::Readout(status)
 }
 
 // 0x0800 to 0x08FF.
 #[tactic(auto, using(bools::proofs::Tests::tests), unfolding(crate::specs::Map::control_map))]
 fn control_map(a: u16) -> Register
+    requires { 0x0800 ≤ a }
     ensures { result ≡ control_map a }
 {
-    if a < 0x0801 {
-        return Register::Other(Setting::WatchdogTimeout);
+    match a {
+        0x0800 => Register::Other(Setting::WatchdogTimeout),
+        0x0801 => Register::Control,
+        0x0802 => Register::Mode,
+        0x0804..=0x080F => Register::Timeout(a - 0x0804),
+        0x0810..=0x0813 => Register::Other(Setting::WatchdogReset(a - 0x0810)),
+        _ => Register::Nothing,
     }
-    if a < 0x0802 {
-        return Register::Control;
-    }
-    if a < 0x0803 {
-        return Register::Mode;
-    }
-    if a < 0x0804 {
-        return Register::Nothing;
-    }
-    if a < 0x0810 {
-        return Register::Timeout(a - 0x0804);
-    }
-    if a < 0x0814 {
-        return Register::Other(Setting::WatchdogReset(a - 0x0810));
-    }
-    Register::Nothing
 }
 
 // 0x0900 to 0x0FFF.
 #[tactic(auto, using(bools::proofs::Tests::tests), unfolding(crate::specs::Map::event_map))]
 fn event_map(a: u16) -> Register
+    requires { 0x0900 ≤ a }
     ensures { result ≡ event_map a }
 {
-    if a < 0x0901 {
-        return Register::Readout(Status::TagLow);
+    match a {
+        0x0900 => Register::Readout(Status::TagLow),
+        0x0901 => Register::Readout(Status::TagHigh),
+        0x0902 => Register::Readout(Status::Code),
+        0x0903 => Register::Readout(Status::LoaderState),
+        0x0904 => Register::Readout(Status::LoaderCounter),
+        0x0A00 => Register::Key,
+        0x0A01 => Register::Enable,
+        0x0A02 => Register::Reload,
+        0x0A03 => Register::Prepare,
+        0x0A04 => Register::Recover,
+        _ => Register::Nothing,
     }
-    if a < 0x0902 {
-        return Register::Readout(Status::TagHigh);
-    }
-    if a < 0x0903 {
-        return Register::Readout(Status::Code);
-    }
-    if a < 0x0904 {
-        return Register::Readout(Status::LoaderState);
-    }
-    if a < 0x0905 {
-        return Register::Readout(Status::LoaderCounter);
-    }
-    if a < 0x0A00 {
-        return Register::Nothing;
-    }
-    if a < 0x0A01 {
-        return Register::Key;
-    }
-    if a < 0x0A02 {
-        return Register::Enable;
-    }
-    if a < 0x0A03 {
-        return Register::Reload;
-    }
-    if a < 0x0A04 {
-        return Register::Prepare;
-    }
-    if a < 0x0A05 {
-        return Register::Recover;
-    }
-    Register::Nothing
 }
 
 // An output's block, k addresses from 0x1100.
@@ -193,43 +139,16 @@ fn counter_map(a: u16) -> Register
     requires { 0x1000 ≤ a }
     ensures { result ≡ counter_map a }
 {
-    if a < 0x1080 {
-        return Register::Input(a - 0x1000);
+    match a {
+        0x1000..=0x107F => Register::Input(a - 0x1000),
+        0x1100..=0x11BF => output_block(a - 0x1100),
+        0x1200..=0x12FF => Register::Readout(Status::Count(a - 0x1200)),
+        0x1300..=0x136B => Register::Readout(Status::Raw(a - 0x1300)),
+        0x1600..=0x161F => Register::Group(a - 0x1600),
+        0x1800..=0x19FF => Register::Readout(Status::Threshold(a - 0x1800)),
+        0x8000..=0xBFFF => Register::Word(a - 0x8000),
+        _ => Register::Nothing,
     }
-    if a < 0x1100 {
-        return Register::Nothing;
-    }
-    if a < 0x11C0 {
-        return output_block(a - 0x1100);
-    }
-    if a < 0x1200 {
-        return Register::Nothing;
-    }
-    if a < 0x1300 {
-        return Register::Readout(Status::Count(a - 0x1200));
-    }
-    if a < 0x136C {
-        return Register::Readout(Status::Raw(a - 0x1300));
-    }
-    if a < 0x1600 {
-        return Register::Nothing;
-    }
-    if a < 0x1620 {
-        return Register::Group(a - 0x1600);
-    }
-    if a < 0x1800 {
-        return Register::Nothing;
-    }
-    if a < 0x1A00 {
-        return Register::Readout(Status::Threshold(a - 0x1800));
-    }
-    if a < 0x8000 {
-        return Register::Nothing;
-    }
-    if a < 0xC000 {
-        return Register::Word(a - 0x8000);
-    }
-    Register::Nothing
 }
 
 // What stands at an address.
@@ -237,17 +156,11 @@ fn counter_map(a: u16) -> Register
 pub fn decode(a: u16) -> Register
     ensures { result ≡ decode_of a }
 {
-    if a < 0x0700 {
-        return backplane_map(a);
+    match a {
+        0..=0x06FF => backplane_map(a),
+        0x0700..=0x07FF => status_map(a),
+        0x0800..=0x08FF => control_map(a),
+        0x0900..=0x0FFF => event_map(a),
+        _ => counter_map(a),
     }
-    if a < 0x0800 {
-        return status_map(a);
-    }
-    if a < 0x0900 {
-        return control_map(a);
-    }
-    if a < 0x1000 {
-        return event_map(a);
-    }
-    counter_map(a)
 }
