@@ -48,13 +48,6 @@ pub struct Queue {
     pub waiting: u16,
 }
 
-// A reload at work: the request, and the counter that is handled in the next tick.
-#[derive(Clone, Copy)]
-pub struct Reload {
-    pub request: Request,
-    pub next: u16,
-}
-
 impl Default for Queue {
     ghost is_default = { λ q. q ≡ queue0 };
 
@@ -65,6 +58,13 @@ impl Default for Queue {
             waiting: 0,
         }
     }
+}
+
+// A reload at work: the request, and the counter that is handled in the next tick.
+#[derive(Clone, Copy)]
+pub struct Reload {
+    pub request: Request,
+    pub next: u16,
 }
 
 // The request behind place i, and an empty one behind the last.
