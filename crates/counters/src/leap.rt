@@ -4,8 +4,6 @@ ghost use Rattle.std.specs.Int.Signed.{mag};
 ghost use Rattle.counters.specs.Leap.{Ranged, count_after, counter_after, counter_leap, leap_counters};
 
 use crate::counter::Counter;
-use std::array;
-
 // The count after so many rises of UP and of DOWN: a word of 32 bits that wraps.
 fn count_after(z: i32, ups: u32, downs: u32) -> i32
     ensures { result ≡ count_after z ups downs }
@@ -44,13 +42,9 @@ fn counter_after(c: Counter, control: u16, rises: &[u32; 64], is: u16) -> Counte
 }
 
 // All counters. Their counts were of 32 bits.
-pub fn leap_counters(
-    counters: [Counter; 128],
-    control: u16,
-    rises: [u32; 64],
-    is: u16,
-) -> [Counter; 128]
-    ensures { (result ≡ leap_counters control (λ u. get_or rises u 0) is counters) × Ranged counters 128 }
+#[tactic(auto, unfolding(crate::specs::Leap::leap_counters))]
+pub fn leap_counters(counters: &mut [Counter; 128], control: u16, rises: &[u32; 64], is: u16)
+    ensures { (counters.new ≡ leap_counters control (λ u. get_or rises.now u 0) is counters.old) × Ranged counters.old 128 }
 {
-    array::from_fn(|i| counter_after(counters[i], control, &rises, is))
+    lists::step_each(counters, |_, c| counter_after(c, control, rises, is));
 }

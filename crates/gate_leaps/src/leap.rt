@@ -4,7 +4,6 @@ ghost use Rattle.gate_leaps.specs.Leap.{gate_after, leap_gates, steady_gates};
 ghost use Rattle.gate_leaps.specs.Leap.{horizon as leap_horizon, settled as leap_settled, sooner as leap_sooner, stays as leap_stays, steady as leap_steady};
 
 use gates::{Gate, GateState, in_prepare, output_of};
-use std::array;
 
 // The gate with its timer k ticks on.
 #[tactic(auto, unfolding(crate::specs::Leap::gate_after))]
@@ -18,10 +17,11 @@ fn gate_after(mut g: Gate, k: u32) -> Gate
 }
 
 // All gates, k ticks on.
-pub fn leap_gates(gates: [Gate; 12], k: u32) -> [Gate; 12]
-    ensures { result ≡ leap_gates k gates }
+#[tactic(auto, unfolding(crate::specs::Leap::leap_gates))]
+pub fn leap_gates(gates: &mut [Gate; 12], k: u32)
+    ensures { gates.new ≡ leap_gates k gates.old }
 {
-    array::from_fn(|i| gate_after(gates[i], k))
+    lists::step_each(gates, |_, g| gate_after(g, k));
 }
 
 // Whether no pulse waits, and prepare signal and output are those of the last tick.
@@ -56,8 +56,8 @@ fn steady(k: u32, high: bool, g: Gate) -> bool
 }
 
 // Whether all gates stay for k ticks at these levels.
-pub fn steady_gates(gates: [Gate; 12], k: u32, levels: u16) -> bool
-    ensures { result ≡ steady_gates k levels gates }
+pub fn steady_gates(gates: &[Gate; 12], k: u32, levels: u16) -> bool
+    ensures { result ≡ steady_gates k levels gates.now }
 {
     for (i, g) in gates.iter().enumerate() {
         if !steady(k, words::bit(levels as u64, i as u32), *g) {
@@ -78,12 +78,12 @@ fn sooner(g: Gate, k: u32) -> u32
 }
 
 // How many of k ticks the gates' timers allow.
-pub fn horizon(gates: [Gate; 12], k: u32) -> u32
-    ensures { result ≡ leap_horizon 12 gates k }
+pub fn horizon(gates: &[Gate; 12], k: u32) -> u32
+    ensures { result ≡ leap_horizon 12 gates.now k }
 {
     let mut most = k;
     for g in gates {
-        most = sooner(g, most);
+        most = sooner(*g, most);
     }
     most
 }

@@ -2,11 +2,10 @@
 ghost use Rattle.std.specs.Prelude.{◌≡◌, Bool, ◌-◌, ◌<◌};
 ghost use Rattle.gates.specs.Gate.{state_number, from_idle, from_prepare, from_open, from_waiting, from_error, from_recover, from_direct, next_state, in_prepare, timer_of, output_of, gate_step, with_timeout, with_mode, with_prepare, with_recover, with_prepare_pulse, with_recover_pulse, each_gate, gate_bits, state_word, failed, prepare_signal, recover_signal};
 
-use std::array;
-
 // The states in the order of the Manual's IDs 0 to 6; Open is the Manual's GATE.
-#[derive(Clone, Copy, PartialEq, Eq)]
+#[derive(Clone, Copy, PartialEq, Eq, Default)]
 pub enum GateState {
+    #[default]
     Idle,
     Prepare,
     Open,
@@ -16,7 +15,7 @@ pub enum GateState {
     Direct,
 }
 
-#[derive(Clone, Copy)]
+#[derive(Clone, Copy, Default)]
 pub struct Gate {
     pub state: GateState,
     pub timer: u32,
@@ -263,25 +262,25 @@ impl Gate {
 }
 
 // All gates after a change: gate i by bit i of a word.
-pub fn change_gates<F: Fn(Gate, bool) -> Gate>(gates: [Gate; 12], w: u16, change: F) -> [Gate; 12]
+pub fn change_gates<F: Fn(Gate, bool) -> Gate>(gates: &mut [Gate; 12], w: u16, change: F)
     requires { F.IsAlwaysCallable change }
-    ensures { (f : Bool → Gate → Gate) → ((g : Gate) (b : Bool) (next : Gate) → F.post change g b next → next ≡ f b g) → result ≡ each_gate f w gates }
+    ensures { (f : Bool → Gate → Gate) → ((g : Gate) (b : Bool) (next : Gate) → F.post change g b next → next ≡ f b g) → gates.new ≡ each_gate f w gates.old }
 {
-    array::from_fn(|i| change(gates[i], words::bit(w as u64, i as u32)))
+    lists::step_each(gates, |i, g| change(g, words::bit(w as u64, i as u32)));
 }
 
 // A bit of each gate as a word, gate 0 lowest.
-pub fn gate_bits<F: Fn(Gate) -> bool>(gates: [Gate; 12], bit: F) -> u16
+pub fn gate_bits<F: Fn(Gate) -> bool>(gates: &[Gate; 12], bit: F) -> u16
     requires { F.IsAlwaysCallable bit }
-    ensures { (f : Gate → Bool) → ((g : Gate) (b : Bool) → F.post bit g b → b ≡ f g) → result ≡ gate_bits f gates }
+    ensures { (f : Gate → Bool) → ((g : Gate) (b : Bool) → F.post bit g b → b ≡ f g) → result ≡ gate_bits f gates.now }
 {
     words::from_bits(12, |i| bit(gates[i]))
 }
 
 // The states of gates 4 k to 4 k + 3, four bits each.
-pub fn state_word(gates: [Gate; 12], k: usize) -> u16
+pub fn state_word(gates: &[Gate; 12], k: usize) -> u16
     requires { k < 3 }
-    ensures { result ≡ state_word gates k }
+    ensures { result ≡ state_word gates.now k }
 {
     words::from_fields(4, 4, |i| {
         let g = gates[4 * k + i];

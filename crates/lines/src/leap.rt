@@ -3,60 +3,66 @@ ghost use Rattle.std.specs.Prelude.{◌≡◌, ◌*◌, ◌^◌, ◌<◌};
 ghost use Rattle.lists.specs.Table.{tabulate};
 ghost use Rattle.lines.specs.Leap.{leap_phases, low_phases, phase_after, phase_total, rises_in};
 
-use crate::lines::{LIMIT, frequency};
+use crate::lines::{LIMIT, Signal};
 use std::array;
 
-// A phase with its signal's frequency added k times.
-fn phase_total(k: u32, j: usize, phase: u32) -> u64
-    requires { j < 9 }
-    ensures { (result ≡ phase_total k j phase) × (result < 72000 * 2 ^ 32) }
-{
-    (phase as u64) + (k as u64) * (frequency(j) as u64)
-}
+impl Signal {
+    // A phase with the signal's frequency added k times.
+    fn phase_total(self, k: u32, phase: u32) -> u64
+        ensures { (result ≡ phase_total k self.number phase) × (result < 72000 * 2 ^ 32) }
+    {
+        (phase as u64) + (k as u64) * (self.frequency() as u64)
+    }
 
-// A phase k ticks on.
-#[tactic(auto, unfolding(crate::specs::Leap::phase_after))]
-fn phase_after(k: u32, j: usize, phase: u32) -> u32
-    requires { j < 9 }
-    ensures { result ≡ phase_after k j phase }
-{
-    (phase_total(k, j, phase) % LIMIT) as u32
+    // A phase k ticks on.
+    #[tactic(auto, unfolding(crate::specs::Leap::phase_after))]
+    fn phase_after(self, k: u32, phase: u32) -> u32
+        ensures { result ≡ phase_after k self.number phase }
+    {
+        (self.phase_total(k, phase) % LIMIT) as u32
+    }
 }
 
 // All phases, k ticks on.
-pub fn leap_phases(phases: [u32; 9], k: u32) -> [u32; 9]
-    ensures { result ≡ leap_phases k phases }
+#[tactic(auto, unfolding(crate::specs::Leap::leap_phases))]
+pub fn leap_phases(phases: &mut [u32; 9], k: u32)
+    ensures { phases.new ≡ leap_phases k phases.old }
 {
-    array::from_fn(|j| phase_after(k, j, phases[j]))
+    lists::step_each(
+        phases,
+        |number: usize, phase: u32| -> u32
+            requires { number < 9 }
+        { Signal { number }.phase_after(k, phase) },
+    );
 }
 
 // The rises of selection value u in k ticks.
 #[tactic(auto, unfolding(crate::specs::Leap::rises_in))]
-fn rises_at(phases: [u32; 9], k: u32, u: usize) -> u32
+fn rises_at(phases: &[u32; 9], k: u32, u: usize) -> u32
     requires { u < 64 }
-    ensures { result ≡ rises_in k phases u }
+    ensures { result ≡ rises_in k phases.now u }
 {
     if u < 55 {
         return 0;
     }
-    let j = u - 55;
-    (phase_total(k, j, phases[j]) / LIMIT) as u32
+    let number = u - 55;
+    (Signal { number }.phase_total(k, phases[number]) / LIMIT) as u32
 }
 
 // The rises of each selection value in k ticks in which no input rises.
-pub fn rises_in(phases: [u32; 9], k: u32) -> [u32; 64]
-    ensures { result ≡ tabulate 64 (rises_in k phases) }
+pub fn rises_in(phases: &[u32; 9], k: u32) -> [u32; 64]
+    ensures { result ≡ tabulate 64 (rises_in k phases.now) }
 {
     array::from_fn(|u| rises_at(phases, k, u))
 }
 
 // Whether every phase is below 125,000.
 #[tactic(auto, using(crate::proofs::Leaps::low_here))]
-pub fn low_phases(phases: [u32; 9]) -> bool
-    ensures { result ≡ low_phases phases }
+pub fn low_phases(phases: &[u32; 9]) -> bool
+    ensures { result ≡ low_phases phases.now }
 {
     for phase in phases {
-        if LIMIT <= phase as u64 {
+        if LIMIT <= *phase as u64 {
             return false;
         }
     }

@@ -1,15 +1,15 @@
--- Arrays that std's `array::from_fn` makes of a closure that changes nothing: element i is what a call at i gives.
+-- Arrays that std's `array::from_fn` makes of a closure that changes nothing: element i is what a call at i gives. And lists whose elements all stepped.
 use Prim.Native.Nat.{ℕ, zero, suc, ◌+◌, ◌<◌}
 use native.Mathlib.Nat.{le_of_suc-le-suc, not-suc-le-zero, zero-add}
 use native.Mathlib.Omega.{arith}
 use mathlib.Core.List.{List, [], ◌∷◌}
 use mathlib.Core.Path.{◌≡◌, refl, subst, sym, ◌∙◌}
 use denote.Param.Members.{Called, Mut}
-use lib.ListN.{get_or}
+use lib.ListN.{get_or, length}
 use lib.Seq.{ext_get_or}
 use Rattle.std.specs.Array.{IsFromFnResult, IsFromFnResultFrom}
-use Rattle.lists.specs.Table.{table_from, tabulate}
-use Rattle.lists.proofs.Tables.{get_d_tabulate, length_tabulate}
+use Rattle.lists.specs.Table.{each, table_from, tabulate}
+use Rattle.lists.proofs.Tables.{get_d_tabulate, get_or_each, length_each, length_tabulate}
 
 module _ {F B : Type 0} (g : Mut F (ℕ × Unit {0}) B) (f : F) (h : ℕ → B) where
   -- a call at each number below n gives what h does, and the closure stays as it is
@@ -34,3 +34,10 @@ module _ {F B : Type 0} (g : Mut F (ℕ × Unit {0}) B) (f : F) (h : ℕ → B) 
       let e : k < n = omega (arith, m.long) in
       rw zero-add at (made_from (x ∷ xs) 0 n (λ j y q t. c j y q (omega arith)) m.each k e x)
       ∙ sym (get_d_tabulate n h k x e))
+
+-- a list of as many elements, each stepped by f
+pub each_is : {A : Type 0} (n : ℕ) (d : A) (f : ℕ → A → A) (xs ys : List A) → length xs ≡ n → length ys ≡ n →
+    ((k : ℕ) → k < n → get_or ys k d ≡ f k (get_or xs k d)) → ys ≡ each n d f xs
+each_is n d f xs ys size same e =
+    ext_get_or d _ _ (same ∙ sym (length_each n d f xs))
+    (λ k l. let b : k < n = omega (arith, same) in e k b ∙ sym (get_or_each n d f xs k b))

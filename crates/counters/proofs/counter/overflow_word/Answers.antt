@@ -12,4 +12,4 @@ returns c =
     let a = c.args in
     c.from_bits.ensures _
     (λ i b h p.
-    let read = counter_read a.counters (16 * a.k + i) (search rules) (omega arith) in search rules)
+    let read = counter_read a.counters.now (16 * a.k + i) c.told-counters (omega arith) in search rules)

@@ -15,7 +15,7 @@ loop-phase-init c = refl
 
 pub loop-phase-preserved : goal.loop-phase-preserved
 loop-phase-preserved c =
-    any_more c.loop-phase.phase-index (λ j. leb 125000 (get_or c.args.phases j 0)) c.loop-phase.invariant (lt-leb _ _ (assumption c))
+    any_more c.loop-phase.phase-index (λ j. leb 125000 (get_or c.args.phases.now j 0)) c.loop-phase.invariant (lt-leb _ _ (assumption c))
 
 pub returns : goal.returns
 unfolding low_phases
