@@ -14,10 +14,10 @@ pub returns : goal.returns
 unfolding watchdog_word watchdog_at
 returns g c = λ f flags none.
     let a = c.args in
-    let full : length a.watchdogs ≡ 54 = search rules in
+    let full : length a.watchdogs.now ≡ 54 = search rules in
     c.from_bits.ensures _
     (λ b t h p.
     let i = 16 * a.k + b in
     cases (ltb i 54)
     (λ e. let l : i < 54 = ltb-true i 54 e in search (rules, flags))
-    (λ e. let l : length a.watchdogs ≤ i = omega (arith, ltb-false i 54 e) in rw (get_or-eq_default a.watchdogs watchdog0 l, none) (search rules)))
+    (λ e. let l : length a.watchdogs.now ≤ i = omega (arith, ltb-false i 54 e) in rw (get_or-eq_default a.watchdogs.now watchdog0 l, none) (search rules)))
