@@ -10,7 +10,7 @@ use Rattle.lists.specs.Checks.{Row, right, row}
 use Rattle.lists.specs.Table.{tabulate, table_from}
 use Rattle.lists.proofs.Rows.{row_right}
 use Rattle.lines.specs.Lines.{bad_levels}
-use Rattle.records.specs.Records.{next_at, number_at, payload_at, record_at, repeat_bytes, ticks_at}
+use Rattle.records.specs.Records.{levels_at, next_at, number_at, payload_at, record_at, repeat_bytes, ticks_at}
 use Rattle.captures.specs.Captures.{Conversion, conversion_of, first_bad, frame_at, frame_told, frames_of, length_told, records_of, same_frame, status_of, trace_of}
 use Rattle.captures.specs.ReadBack.{before, repeats_by, repeats_from, repeats_in}
 use Rattle.captures.specs.Repeats.{expand, Repeat, repeat, joined, joined_from}
@@ -113,20 +113,20 @@ module _ (x : Frame) where
 
 -- two records of tick, read to the end
 reads_ticks : repeats_in ((1 ∷ 0 ∷ 11 ∷ 0 ∷ 2 ∷ pulse) ++ (1 ∷ 0 ∷ 11 ∷ 0 ∷ 1 ∷ shut)) ≡ some (repeat 2 (frame 1 1) ∷ repeat 1 (frame 1 0) ∷ [])
-unfolding repeats_in repeats_from repeats_by before record_at payload_at ticks_at next_at number_at
+unfolding repeats_in repeats_from repeats_by before record_at payload_at ticks_at levels_at next_at number_at
 reads_ticks = refl
 
 -- a write, a repeat of 0, a record that is cut: no trace of ticks
 reads_write : repeats_in (2 ∷ 0 ∷ 4 ∷ 8 ∷ 0 ∷ 0 ∷ 7 ∷ []) ≡ none
-unfolding repeats_in repeats_from repeats_by before record_at payload_at ticks_at next_at number_at
+unfolding repeats_in repeats_from repeats_by before record_at payload_at ticks_at levels_at next_at number_at
 reads_write = refl
 
 reads_nothing : repeats_in (1 ∷ 0 ∷ 11 ∷ 0 ∷ 0 ∷ pulse) ≡ none
-unfolding repeats_in repeats_from repeats_by before record_at payload_at ticks_at next_at number_at
+unfolding repeats_in repeats_from repeats_by before record_at payload_at ticks_at levels_at next_at number_at
 reads_nothing = refl
 
 reads_cut : repeats_in (1 ∷ 0 ∷ 11 ∷ 0 ∷ 1 ∷ 0 ∷ []) ≡ none
-unfolding repeats_in repeats_from repeats_by before record_at payload_at ticks_at next_at number_at
+unfolding repeats_in repeats_from repeats_by before record_at payload_at ticks_at levels_at next_at number_at
 reads_cut = refl
 
 expands : expand (repeat 2 (frame 1 1) ∷ repeat 1 (frame 1 0) ∷ []) ≡ frame 1 1 ∷ frame 1 1 ∷ frame 1 0 ∷ []

@@ -5,12 +5,13 @@ use native.Mathlib.Omega.{arith}
 use mathlib.Core.Bool.{false}
 use mathlib.Core.List.{List, [], ◌∷◌, ◌++◌, append_assoc}
 use mathlib.Core.Path.{◌≡◌, refl, sym, ap, ◌∙◌}
+use Rattle.std.proofs.Common.{Err}
 use borrow.Author.Tests.{ne_eqb, le-ltb}
 use lib.Dec.{eqb, lit<}
 use lib.ListN.{length, get_or, length-append}
 use lib.Seq.{get_or-append-add, get_or_at}
-use Rattle.records.specs.declared.Record.TheVariants.{AtEnd}
-use Rattle.records.specs.Records.{number_at, next_at, ticks_at, payload_at, record_at}
+use Rattle.records.specs.declared.Stop.TheVariants.{End}
+use Rattle.records.specs.Records.{number_at, next_at, levels_at, ticks_at, payload_at, record_at}
 use Rattle.captures.specs.Repeats.{Repeat}
 use Rattle.captures.specs.Written.{Frame, bytes, level_bytes, tick_record, record_bytes, record_of, written}
 
@@ -46,7 +47,7 @@ unfolding next_at
 next_behind p t at = rw (add_assoc (length p) at 1, number_behind p t (at + 1) 2) (omega arith)
 
 payload_behind : (tag : ℕ) (p t : List ℕ) (at : ℕ) → payload_at tag (p ++ t) (length p + at) ≡ payload_at tag t at
-unfolding payload_at ticks_at
+unfolding payload_at ticks_at levels_at
 payload_behind tag p t at = simp (add_assoc, number_behind)
 
 pub record_behind : (p t : List ℕ) (at : ℕ) → record_at (p ++ t) (length p + at) ≡ record_at t at
@@ -71,7 +72,7 @@ length_record r = refl
 -- the payload of a tick record, for a repeat of every width
 pub ticks_read : (width : ℕ) (r : Repeat Frame) → Narrow width r → (p q : List ℕ) (at : ℕ) → length p ≡ at →
     ticks_at width (p ++ (bytes width r.times ++ (bytes 7 r.element.inputs ++ (bytes 2 r.element.gates ++ q)))) at ≡ record_of r
-unfolding ticks_at
+unfolding ticks_at levels_at
 ticks_read width r h p q at e =
     let n = r.times in
     let i = r.element.inputs in
@@ -123,7 +124,7 @@ pub next_read_at : (p : List ℕ) (r : Repeat Frame) (rest : List ℕ) → next_
 next_read_at p r rest = rw add-zero at (next_behind p (record_bytes r ++ rest) 0) ∙ rw next_read
 
 -- at the end nothing is left
-pub end_read : (p : List ℕ) → record_at p (length p) ≡ AtEnd
+pub end_read : (p : List ℕ) → record_at p (length p) ≡ Err End
 unfolding record_at
 end_read p = let e : length p - length p ≡ 0 = omega arith in rw e
 

@@ -1,24 +1,29 @@
 -- Document 02, CR 2: "Reading the result back gives the frames": what a trace of tick records holds, by the reader that runs use.
-use Rattle.std.specs.Prelude.{ℕ, zero, suc, ◌+◌, List, [], ◌∷◌, length}
+use Rattle.std.specs.Prelude.{ℕ, zero, suc, ◌+◌, List, [], ◌∷◌, Ok, Err, length}
 use Rattle.std.proofs.Math.Option.{Option, some, none}
-use Rattle.records.specs.declared.Record.{Record}
-use Rattle.records.specs.declared.Record.TheVariants.{AtEnd, Malformed, Ticks, Write, Tag}
-use Rattle.records.specs.Records.{next_at, record_at}
+use Rattle.records.specs.declared.Record.TheVariants.{Ticks, Write, Tag}
+use Rattle.records.specs.declared.Stop.{Stop}
+use Rattle.records.specs.declared.Stop.TheVariants.{End}
+use Rattle.records.specs.Records.{Found, next_at, record_at}
 use Rattle.captures.specs.Repeats.{Repeat, repeat}
-use Rattle.captures.specs.Written.{Frame, frame}
+use Rattle.captures.specs.Written.{Frame}
 
 -- a repeat before those that follow it
 unfoldable pub before : Repeat Frame → Option (List (Repeat Frame)) → Option (List (Repeat Frame))
 before r none = none
 before r (some rs) = some (r ∷ rs)
 
+-- where no record stands: the trace is read to its end, or it is malformed
+abbrev pub behind_last : Stop → Option (List (Repeat Frame))
+behind_last End = some []
+behind_last _ = none
+
 -- by a record and what follows it
-unfoldable pub repeats_by : Record → Option (List (Repeat Frame)) → Option (List (Repeat Frame))
-repeats_by AtEnd rest = some []
-repeats_by (Malformed stop) rest = none
-repeats_by (Ticks n inputs gates) rest = before (repeat n (frame inputs gates)) rest
-repeats_by (Write a w) rest = none
-repeats_by (Tag e) rest = none
+unfoldable pub repeats_by : Found → Option (List (Repeat Frame)) → Option (List (Repeat Frame))
+repeats_by (Err stop) rest = behind_last stop
+repeats_by (Ok (Ticks n levels)) rest = before (repeat n levels) rest
+repeats_by (Ok (Write a w)) rest = none
+repeats_by (Ok (Tag e)) rest = none
 
 unfoldable pub repeats_from : ℕ → List ℕ → ℕ → Option (List (Repeat Frame))
 repeats_from zero t at = none

@@ -1,14 +1,13 @@
 -- Document 02, CR 2: "A converter writes tick records": the bytes of a record and of a trace of tick records.
-use Rattle.std.specs.Prelude.{ℕ, zero, suc, ◌+◌, ◌/◌, ◌%◌, List, [], ◌∷◌, ◌++◌}
-use Rattle.records.specs.declared.Record.{Record}
+use Rattle.std.specs.Prelude.{ℕ, zero, suc, ◌+◌, ◌/◌, ◌%◌, List, [], ◌∷◌, ◌++◌, Ok}
+use Rattle.lines.specs.declared.levels.Levels.{Levels}
 use Rattle.records.specs.declared.Record.TheVariants.{Ticks}
-use Rattle.records.specs.Records.{gate_bytes, header_bytes, input_bytes, repeat_bytes, tick_bytes}
+use Rattle.records.specs.Records.{Found, gate_bytes, header_bytes, input_bytes, repeat_bytes, tick_bytes}
 use Rattle.captures.specs.Repeats.{Repeat}
 
 -- the levels of a tick
-pub record Frame : Type 0 where
-  pub inputs : ℕ
-  pub gates : ℕ
+abbrev pub Frame : Type 0
+Frame = Levels
 
 abbrev pub frame : ℕ → ℕ → Frame
 frame inputs gates = record { inputs = inputs; gates = gates }
@@ -47,5 +46,5 @@ written [] = []
 written (r ∷ rs) = record_bytes r ++ written rs
 
 -- the record that a repeat is to the reader of traces
-abbrev pub record_of : Repeat Frame → Record
-record_of r = Ticks r.times r.element.inputs r.element.gates
+abbrev pub record_of : Repeat Frame → Found
+record_of r = Ok (Ticks r.times r.element)

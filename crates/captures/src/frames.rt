@@ -4,6 +4,8 @@ ghost use Rattle.captures.specs.Captures.{frame_at, is_bad, same_frame};
 ghost use Rattle.captures.specs.Nine.{frame_of};
 ghost use Rattle.captures.specs.Written.{largest_repeat};
 
+use lines::Levels;
+
 // Seven bytes of inputs, two of gates.
 pub const FRAME_BYTES: usize = 9;
 
@@ -28,27 +30,21 @@ impl From<&[u8; FRAME_BYTES]> for Nine {
 }
 
 impl Nine {
-    // The levels of the inputs: seven bytes.
+    // The levels of the inputs, seven bytes, and of the gates, two.
     #[tactic(auto, unfolding(crate::specs::Nine::frame_of))]
-    fn inputs(self) -> u64
-        ensures { result ≡ (frame_of self).inputs }
+    fn levels(self) -> Levels
+        ensures { result ≡ frame_of self }
     {
-        self.head / 256
-    }
-
-    // The levels of the gates: two bytes.
-    #[tactic(auto, unfolding(crate::specs::Nine::frame_of))]
-    fn gates(self) -> u16
-        ensures { result ≡ (frame_of self).gates }
-    {
-        (self.head % 256 * 256 + u64::from(self.last)) as u16
+        let inputs = self.head / 256;
+        let gates = (self.head % 256 * 256 + u64::from(self.last)) as u16;
+        Levels { inputs, gates }
     }
 
     // A level on a line that does not exist.
     pub fn is_bad(self) -> bool
         ensures { result ≡ is_bad (frame_of self) }
     {
-        lines::bad_levels(self.inputs(), self.gates())
+        self.levels().are_bad()
     }
 }
 

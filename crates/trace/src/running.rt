@@ -104,12 +104,16 @@ impl<'a> Running<'a> {
     }
 
     // A tick record: refused by its levels, or too long for the ticks left, or so many ticks.
-    fn run_ticks(&mut self, state: &mut Crate, mem: &[u16], n: u64, levels: Levels) -> Result<(), Stop>
+    fn run_ticks(
+        &mut self,
+        state: &mut Crate,
+        mem: &[u16],
+        n: u64,
+        levels: Levels,
+    ) -> Result<(), Stop>
         requires { Room self.old.trace.now (so_far self.old) × (self.old.ticks ≤ self.old.budget) }
-        ensures {
-            (run_run (turned result state.new (so_far self.new)) mem.now ≡ ticks_in self.old.trace.now self.old.budget (run_run (progress_of state.old (so_far self.old) true) mem.now) n levels.inputs levels.gates)
-            × SameTrace self.old self.new
-        }
+        ensures { (run_run (turned result state.new (so_far self.new)) mem.now ≡ ticks_in self.old.trace.now self.old.budget (run_run (progress_of state.old (so_far self.old) true) mem.now) n levels.inputs levels.gates)
+            × SameTrace self.old self.new }
     {
         // levels come before the budget: a record that they refuse is passed
         if levels.are_bad() {
@@ -127,10 +131,8 @@ impl<'a> Running<'a> {
     // One record: what it does, or why the run stops before it.
     fn once(&mut self, state: &mut Crate, mem: &mut [u16]) -> Result<(), Stop>
         requires { Sound self.old.trace.now self.old.budget (so_far self.old) }
-        ensures {
-            (run_run (turned result state.new (so_far self.new)) mem.new ≡ once_of self.old.trace.now self.old.budget (run_run (progress_of state.old (so_far self.old) true) mem.old))
-            × SameTrace self.old self.new
-        }
+        ensures { (run_run (turned result state.new (so_far self.new)) mem.new ≡ once_of self.old.trace.now self.old.budget (run_run (progress_of state.old (so_far self.old) true) mem.old))
+            × SameTrace self.old self.new }
     {
         let answer = match records::record_at(self.trace, self.next)? {
             Record::Ticks(n, levels) => return self.run_ticks(state, mem, n, levels),
