@@ -3,7 +3,7 @@ use Prim.Native.Nat.{ℕ, zero, suc, ◌+◌, ◌<◌}
 use native.Mathlib.Nat.{lt_irrefl}
 use native.Mathlib.Numerals.{add-one}
 use native.Mathlib.Omega.{arith}
-use mathlib.Core.Bool.{Bool, true, false, ◌&&◌, false≢true}
+use mathlib.Core.Bool.{Bool, true, false, false≢true}
 use mathlib.Core.List.{List}
 use mathlib.Core.Path.{◌≡◌, refl, sym, ap, ◌∙◌}
 use lib.ListN.{get_or}
@@ -13,7 +13,7 @@ use Rattle.bools.specs.Pick.{pick}
 use Rattle.bools.proofs.Tests.{cases}
 use Rattle.words.proofs.Packing.{bit_zero}
 use Rattle.lists.specs.Table.{any, least, tabulate}
-use Rattle.lists.proofs.Tables.{any_each, any_fewer, any_found, any_none, get_d_tabulate, least_is, tabulate_ext, tabulate_fill}
+use Rattle.lists.proofs.Tables.{any_each, any_fewer, any_found, any_none, get_d_tabulate, least_is, tabulate_ext}
 use Rattle.device.specs.declared.state.Crate.{Crate}
 use Rattle.device.specs.Map.{output_words}
 use Rattle.interlocks.specs.Interlock.{interlock, meets, output_count, selected, signals, trips, trips_by}

@@ -1,7 +1,7 @@
 -- `scan_outputs` meets its contract: level and words read of each output, by what `ended` keeps of it (`ended_level`, `ended_words`).
 use Prim.Native.Nat.{ℕ}
 use mathlib.Core.List.{List}
-use mathlib.Core.Path.{◌≡◌, ◌∙◌}
+use mathlib.Core.Path.{◌∙◌}
 use borrow.Author.Rules.{rules}
 use lib.ListN.{get_or}
 use Rattle.std.proofs.Common.{Option, None}
@@ -10,7 +10,6 @@ use Rattle.lists.proofs.Made.{from_fn_is}
 use Rattle.lists.proofs.Tables.{get_d_tabulate, tabulate_ext}
 use Rattle.device.specs.Map.{output_words}
 use Rattle.interlocks.specs.declared.scan.OutputScan.{OutputScan}
-use Rattle.interlocks.specs.Scan.{output_scan}
 use Rattle.interlocks.specs.Together.{ended_at}
 use Rattle.interlocks.proofs.Scanning.{ended_level, ended_words}
 use Rattle.interlocks.proofs.scan.scan_outputs.Goals as goal
