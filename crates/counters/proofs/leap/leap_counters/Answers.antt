@@ -1,5 +1,4 @@
 -- `leap_counters` meets its contract: each counter leaps, and each was in range.
-use Prim.Native.Nat.{◌^◌, ◌<◌}
 use native.Mathlib.Omega.{arith}
 use borrow.Author.Rules.{rules}
 use Rattle.counters.specs.Counter.{counter0}
