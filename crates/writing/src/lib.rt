@@ -3,4 +3,4 @@
 
 mod writing;
 
-pub use writing::{enqueue, request_answer, write_answer, write_at, write_gates};
+pub use writing::{request, write_at};
