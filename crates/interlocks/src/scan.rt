@@ -30,7 +30,12 @@ fn words_next(ended: &[Option<u16>; 6], selections: &[u16; 132], k: usize) -> [u
 }
 
 // Where the scans ended, after one more word of the outputs that are still 1: so many were read.
-fn ended_next(ended: &[Option<u16>; 6], words: &[u16; 6], present: u16, read: u16) -> [Option<u16>; 6]
+fn ended_next(
+    ended: &[Option<u16>; 6],
+    words: &[u16; 6],
+    present: u16,
+    read: u16,
+) -> [Option<u16>; 6]
     ensures { result ≡ ended_next ended.now words.now present read }
 {
     array::from_fn(|o| {
