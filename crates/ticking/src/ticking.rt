@@ -36,7 +36,7 @@ fn tick_rest(rest: &mut Rest, rises: u64, gatelevels: u16, loader: Option<Reload
 }
 
 // One tick at levels of lines that exist.
-#[tactic(auto, unfolding(crate::specs::Tick::tick_of, gates::specs::Gate::outputs_of))]
+#[tactic(auto, unfolding(crate::specs::Tick::tick_of, crate::specs::Tick::common_tick, crate::specs::Tick::rest_tick, gates::specs::Gate::outputs_of))]
 pub fn tick_crate(s: &mut Crate, mem: &[u16; 16384], levels: Levels)
     ensures { s.new ≡ tick_of s.old mem.now levels.inputs levels.gates }
 {
