@@ -8,7 +8,8 @@ use mathlib.Core.Path.{◌≡◌, refl, sym, ap, subst, ◌∙◌}
 use borrow.Author.Tests.{ltb-true, lt-ltb, le-ltb}
 use lib.Dec.{ltb}
 use lib.ListN.{length, replicate, replicate-append-replicate}
-use Rattle.bools.proofs.Tests.{cases, pick_elim, and_left, and_right}
+use Rattle.bools.proofs.Tests.{cases, pick_elim}
+use Rattle.std.proofs.lemmas.Bool.{and_parts}
 use Rattle.captures.specs.Repeats.{Fit, none, more, NoLongerFirst, ended, equal, shorter, Repeat, repeat, Tells, expand, joined, joined_from}
 
 -- x at the end of its repeats
@@ -39,7 +40,7 @@ module _ {A : Type 0} (same : A → A → Bool) (tells : Tells same) (limit : �
   expand_from (y ∷ ys) x n =
       pick_elim (λ (rs : List (Repeat A)). expand rs ≡ replicate n x ++ (y ∷ ys)) (same x y && ltb n limit)
       (λ e.
-      let s : x ≡ y = tells.equal x y (and_left (same x y) (ltb n limit) e) in
+      let s : x ≡ y = tells.equal x y (and_parts (same x y) (ltb n limit) e).0 in
       expand_from ys x (n + 1) ∙ snoc n x ys ∙ ap (λ (z : A). replicate n x ++ (z ∷ ys)) s)
       (λ e. ap (λ (zs : List A). replicate n x ++ zs) (expand_from ys y 1))
 
@@ -55,7 +56,7 @@ module _ {A : Type 0} (same : A → A → Bool) (tells : Tells same) (limit : �
   fit_from [] x n h k = more h k none
   fit_from (y ∷ ys) x n h k =
       pick_elim (Fit limit) (same x y && ltb n limit)
-      (λ e. fit_from ys x (n + 1) (omega arith) (omega (arith, ltb-true n limit (and_right (same x y) (ltb n limit) e))))
+      (λ e. fit_from ys x (n + 1) (omega arith) (omega (arith, ltb-true n limit (and_parts (same x y) (ltb n limit) e).1)))
       (λ e. more h k (fit_from ys y 1 (omega arith) (omega arith)))
 
   pub fit_joined : 1 ≤ limit → (xs : List A) → Fit limit (joined same limit xs)
@@ -105,8 +106,8 @@ module _ {A : Type 0} (same : A → A → Bool) (tells : Tells same) (limit : �
   front (y ∷ ys) x n h k =
       cases (same x y && ltb n limit)
       (λ e.
-      let s : y ≡ x = sym (tells.equal x y (and_left (same x y) (ltb n limit) e)) in
-      rw (e, s) (between ys x 1 (n + 1) (omega arith) (omega arith) (omega (arith, ltb-true n limit (and_right (same x y) (ltb n limit) e)))).1)
+      let s : y ≡ x = sym (tells.equal x y (and_parts (same x y) (ltb n limit) e).0) in
+      rw (e, s) (between ys x 1 (n + 1) (omega arith) (omega arith) (omega (arith, ltb-true n limit (and_parts (same x y) (ltb n limit) e).1))).1)
       (λ e. rw e (omega arith))
 
   joined_front : (n : ℕ) (x : A) (ys : List A) → 1 ≤ n → n ≤ limit → length (joined same limit (replicate n x ++ ys)) ≤ 1 + length (joined same limit ys)
@@ -163,7 +164,7 @@ module _ {A : Type 0} (same : A → A → Bool) (tells : Tells same) (limit : �
       let k : 1 + j ≡ suc j = omega arith in
       rw (gather j x 1 (y ∷ ys) (omega arith), k, le-ltb (suc j) limit (omega arith))
       (pick_elim (λ (rs : List (Repeat A)). rs ≡ repeat (suc j) x ∷ joined_from same limit y 1 ys) (same x y && false)
-      (λ f. absurd (false≢true (and_right (same x y) false f)))
+      (λ f. absurd (false≢true (and_parts (same x y) false f).1))
       (λ f. refl))
 
   pub full_first : (n : ℕ) (x : A) → 1 ≤ limit → 1 ≤ n →

@@ -7,7 +7,7 @@ use mathlib.Core.Path.{◌≡◌, refl, sym, ◌∙◌}
 use borrow.Author.Tests.{eqb-true, eq-eqb}
 use lib.Dec.{eqb, ltb}
 use lib.ListN.{length, length-map}
-use Rattle.bools.proofs.Tests.{and_left, and_right}
+use Rattle.std.proofs.lemmas.Bool.{and_parts}
 use Rattle.captures.specs.Captures.{frame_at, same_frame}
 use Rattle.captures.specs.Nine.{frames_in, records_in}
 use Rattle.captures.specs.Repeats.{Repeat, Tells, joined, joined_from, repeat}
@@ -18,7 +18,7 @@ use Rattle.captures.proofs.Fewest.{joined_few}
 pub frames_told : Tells same_frame
 unfolding same_frame
 frames_told = record {
-  equal = λ x y e. λ i. frame (eqb-true x.inputs y.inputs (and_left _ _ e) i) (eqb-true x.gates y.gates (and_right (eqb x.inputs y.inputs) _ e) i);
+  equal = λ x y e. λ i. frame (eqb-true x.inputs y.inputs (and_parts _ _ e).0 i) (eqb-true x.gates y.gates (and_parts (eqb x.inputs y.inputs) _ e).1 i);
   itself = λ x. rw (eq-eqb x.inputs x.inputs refl, eq-eqb x.gates x.gates refl);
 }
 

@@ -8,7 +8,8 @@ use mathlib.Core.Path.{◌≡◌, sym, subst}
 use borrow.Author.Tests.{leb-false, ltb-false}
 use lib.Dec.{leb}
 use lib.ListN.{length, replicate}
-use Rattle.bools.proofs.Tests.{cases, or_left, or_right}
+use Rattle.bools.proofs.Tests.{cases}
+use Rattle.std.proofs.lemmas.Bool.{or_parts}
 use Rattle.lines.specs.Lines.{bad_levels, gate_count, input_count}
 use Rattle.records.specs.Records.{repeat_bytes}
 use Rattle.captures.specs.Captures.{first_bad, frames_of, has_bad, is_bad, records_of, same_frame}
@@ -50,8 +51,8 @@ module _ (limit : ℕ) (fits : limit < 256 ^ repeat_bytes) where
   narrow : (r : Repeat Frame) → 1 ≤ r.times → r.times ≤ limit → is_bad r.element ≡ false → Narrow repeat_bytes r
   unfolding bad_levels
   narrow r h k e =
-      let i : r.element.inputs < 2 ^ input_count = leb-false (2 ^ input_count) r.element.inputs (or_left _ _ e) in
-      let g : r.element.gates < 2 ^ gate_count = leb-false (2 ^ gate_count) r.element.gates (or_right (leb (2 ^ input_count) r.element.inputs) _ e) in
+      let i : r.element.inputs < 2 ^ input_count = leb-false (2 ^ input_count) r.element.inputs (or_parts _ _ e).0 in
+      let g : r.element.gates < 2 ^ gate_count = leb-false (2 ^ gate_count) r.element.gates (or_parts (leb (2 ^ input_count) r.element.inputs) _ e).1 in
       record { some = h; times = omega arith; inputs = omega (arith, i); gates = omega (arith, g) }
 
   pub good_of : (rs : List (Repeat Frame)) → Fit limit rs → Levels (expand rs) → Good rs

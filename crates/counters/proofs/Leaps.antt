@@ -16,7 +16,8 @@ use Rattle.numbers.specs.Signed.{signed, word_of, wrapped}
 use Rattle.words.specs.Word.{bit, bit_of}
 use Rattle.numbers.proofs.Adding.{word_add}
 use Rattle.numbers.proofs.Complement.{word_lt, word_signed, wrapped_lt, wrapped_same}
-use Rattle.bools.proofs.Tests.{and_not, cases}
+use Rattle.bools.proofs.Tests.{cases}
+use Rattle.std.proofs.Math.Bool.{and-not_self}
 use Rattle.lists.specs.Table.{each, tabulate}
 use Rattle.lists.proofs.Tables.{each_then, get_or_each, get_d_tabulate, tabulate_ext}
 use Rattle.counters.specs.declared.counter.Counter.{Counter}
@@ -103,7 +104,7 @@ step_count c false true up down h = counted_in c.count up down h
 step_count c false false up down h = h
 
 no_clear : (a b : Bool) → a && b && not b ≡ false
-no_clear true b = and_not b
+no_clear true b = and-not_self b
 no_clear false b = refl
 
 module _ (control w is : ℕ) (c : Counter) where

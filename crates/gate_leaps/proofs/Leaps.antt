@@ -10,7 +10,8 @@ use lib.ListN.{get_or}
 use Rattle.bools.specs.Pick.{pick}
 use Rattle.words.specs.Word.{bit}
 use Rattle.words.proofs.Gather.{pack_ext}
-use Rattle.bools.proofs.Tests.{and_left, and_right, or_left, or_right, pick_elim}
+use Rattle.bools.proofs.Tests.{pick_elim}
+use Rattle.std.proofs.lemmas.Bool.{and_parts, or_parts}
 use Rattle.lists.specs.Table.{any}
 use Rattle.lists.proofs.Tables.{any_each, each_then, get_or_each}
 use Rattle.gates.specs.declared.gate.Gate.{Gate}
@@ -43,29 +44,29 @@ pub record Settled (high : Bool) (g : Gate) : Type 0 where
 settled_is : (high : Bool) (g : Gate) → settled high g ≡ true → Settled high g
 settled_is high g e =
     let shows = same g.lastprepare g.prepare && same g.output (output_of g.state high) in
-    let q = and_left shows (not (g.preparepulse || g.recoverpulse)) e in
-    let n = not-true (g.preparepulse || g.recoverpulse) (and_right shows (not (g.preparepulse || g.recoverpulse)) e) in
+    let q = (and_parts shows (not (g.preparepulse || g.recoverpulse)) e).0 in
+    let n = not-true (g.preparepulse || g.recoverpulse) (and_parts shows (not (g.preparepulse || g.recoverpulse)) e).1 in
     record {
-      pulse = or_left g.preparepulse g.recoverpulse n;
-      other = or_right g.preparepulse g.recoverpulse n;
-      signal = same_is g.lastprepare g.prepare (and_left (same g.lastprepare g.prepare) _ q);
-      shown = same_is g.output (output_of g.state high) (and_right (same g.lastprepare g.prepare) _ q);
+      pulse = (or_parts g.preparepulse g.recoverpulse n).0;
+      other = (or_parts g.preparepulse g.recoverpulse n).1;
+      signal = same_is g.lastprepare g.prepare (and_parts (same g.lastprepare g.prepare) _ q).0;
+      shown = same_is g.output (output_of g.state high) (and_parts (same g.lastprepare g.prepare) _ q).1;
     }
 
 neither : (a b : Bool) → not a && not b ≡ true → (a ≡ false) × (b ≡ false)
-neither a b e = (not-true a (and_left (not a) (not b) e), not-true b (and_right (not a) (not b) e))
+neither a b e = (not-true a (and_parts (not a) (not b) e).0, not-true b (and_parts (not a) (not b) e).1)
 
 stays_next : (st : GateState) (k : ℕ) (high : Bool) (g : Gate) → Settled high g → stays st (suc k) high g ≡ true → next_state st g high ≡ st
 stays_next Idle k high g s e =
     let n = neither g.mode high e in rw (n.0, n.1, s.pulse, s.signal, no_rise g.prepare)
 stays_next Prepare k high g s e =
-    let h = not-true high (and_right (ltb (suc k) g.timer) (not high) e) in
-    let t = ltb-true (suc k) g.timer (and_left (ltb (suc k) g.timer) (not high) e) in
+    let h = not-true high (and_parts (ltb (suc k) g.timer) (not high) e).1 in
+    let t = ltb-true (suc k) g.timer (and_parts (ltb (suc k) g.timer) (not high) e).0 in
     rw (h, lt-leb g.timer 1 (omega arith))
 stays_next Open k high g s e = rw e
 stays_next Waiting k high g s e =
-    let h = not-true high (and_right g.prepare (not high) e) in
-    let p = and_left g.prepare (not high) e in
+    let h = not-true high (and_parts g.prepare (not high) e).1 in
+    let p = (and_parts g.prepare (not high) e).0 in
     rw (h, p)
 stays_next Error k high g s e = rw (not-true g.recover e, s.other)
 stays_next Recover k high g s e = rw e
@@ -75,8 +76,8 @@ stays_less : (st : GateState) (k : ℕ) (high : Bool) (g : Gate) → g.state ≡
 unfolding gate_after
 stays_less Idle k high g s e = e
 stays_less Prepare k high g s e =
-    let t = ltb-true (suc k) g.timer (and_left (ltb (suc k) g.timer) (not high) e) in
-    rw (s, lt-ltb k (g.timer - 1) (omega arith)) (and_right (ltb (suc k) g.timer) (not high) e)
+    let t = ltb-true (suc k) g.timer (and_parts (ltb (suc k) g.timer) (not high) e).0 in
+    rw (s, lt-ltb k (g.timer - 1) (omega arith)) (and_parts (ltb (suc k) g.timer) (not high) e).1
 stays_less Open k high g s e = e
 stays_less Waiting k high g s e = e
 stays_less Error k high g s e = e
@@ -117,11 +118,11 @@ gate_twice n g = gate≡ refl (less (in_prepare g.state) n g.timer) refl refl re
 module _ (k : ℕ) (high : Bool) (g : Gate) (e : steady (suc k) high g ≡ true) where
   is_settled : Settled high g
   unfolding steady
-  is_settled = settled_is high g (and_left (settled high g) _ e)
+  is_settled = settled_is high g (and_parts (settled high g) _ e).0
 
   state_stays : next_state g.state g high ≡ g.state
   unfolding steady
-  state_stays = stays_next g.state k high g is_settled (and_right (settled high g) _ e)
+  state_stays = stays_next g.state k high g is_settled (and_parts (settled high g) _ e).1
 
   gate_step_lem : gate_step high g ≡ gate_after 1 g
   unfolding gate_step gate_after
@@ -133,7 +134,7 @@ module _ (k : ℕ) (high : Bool) (g : Gate) (e : steady (suc k) high g ≡ true)
 
   gate_kept : steady k high (gate_step high g) ≡ true
   unfolding steady gate_after
-  gate_kept = rw gate_step_lem (rw (and_left (settled high g) _ e) (stays_less g.state k high g refl (and_right (settled high g) _ e)))
+  gate_kept = rw gate_step_lem (rw (and_parts (settled high g) _ e).0 (stays_less g.state k high g refl (and_parts (settled high g) _ e).1))
 
   gate_output : (gate_step high g).output ≡ g.output
   unfolding gate_after

@@ -7,7 +7,8 @@ use mathlib.Core.Path.{◌≡◌, refl, sym, ap, ◌∙◌}
 use borrow.Author.Tests.{eqb-true, not-false, not-true}
 use lib.Dec.{eqb}
 use Rattle.bools.specs.Pick.{pick}
-use Rattle.bools.proofs.Tests.{and_left, and_right, cases, or_left, or_right, pick_elim}
+use Rattle.bools.proofs.Tests.{cases, pick_elim}
+use Rattle.std.proofs.lemmas.Bool.{and_parts, or_parts}
 use Rattle.counters.specs.declared.counter.Counter.{Counter}
 use Rattle.gates.specs.declared.gate.Gate.{Gate}
 use Rattle.loader.specs.declared.loader.Loader.{Loader}
@@ -43,15 +44,15 @@ pub quiet_is : (k : ℕ) (s : Crate) (inputs gatelevels : ℕ) → quiet k s inp
 unfolding quiet
 quiet_is k s inputs gatelevels e =
     let waits = s.common.loader.busy || not (is_empty s.common.queue) in
-    let a = and_left (eqb s.levels inputs && not waits) _ e in
-    let b = and_right (eqb s.levels inputs && not waits) _ e in
-    let c = not-true waits (and_right (eqb s.levels inputs) (not waits) a) in
+    let a = (and_parts (eqb s.levels inputs && not waits) _ e).0 in
+    let b = (and_parts (eqb s.levels inputs && not waits) _ e).1 in
+    let c = not-true waits (and_parts (eqb s.levels inputs) (not waits) a).1 in
     record {
-      levels = eqb-true s.levels inputs (and_left (eqb s.levels inputs) _ a);
-      idle = or_left s.common.loader.busy (not (is_empty s.common.queue)) c;
-      empty = not-false (is_empty s.common.queue) (or_right s.common.loader.busy (not (is_empty s.common.queue)) c);
-      phases = low_is s.common.phases (and_left (low_phases s.common.phases) _ b);
-      gates = steady_is k gatelevels s.gates (and_right (low_phases s.common.phases) _ b);
+      levels = eqb-true s.levels inputs (and_parts (eqb s.levels inputs) _ a).0;
+      idle = (or_parts s.common.loader.busy (not (is_empty s.common.queue)) c).0;
+      empty = not-false (is_empty s.common.queue) (or_parts s.common.loader.busy (not (is_empty s.common.queue)) c).1;
+      phases = low_is s.common.phases (and_parts (low_phases s.common.phases) _ b).0;
+      gates = steady_is k gatelevels s.gates (and_parts (low_phases s.common.phases) _ b).1;
     }
 
 -- ---- an idle loader

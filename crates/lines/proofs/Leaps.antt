@@ -11,7 +11,8 @@ use lib.Dec.{leb, ltb}
 use lib.ListN.{get_or, length}
 use Rattle.words.specs.Word.{bit, bit_of}
 use Rattle.words.proofs.Packing.{bit_pack}
-use Rattle.bools.proofs.Tests.{and_not, cases}
+use Rattle.bools.proofs.Tests.{cases}
+use Rattle.std.proofs.Math.Bool.{and-not_self}
 use Rattle.lists.specs.Table.{any}
 use Rattle.lists.proofs.Tables.{any_each, any_found, each_stays, each_then, get_or_each}
 use Rattle.lines.specs.Leap.{leap_phases, low_phases, phase_after, phase_total, rises_in}
@@ -92,7 +93,7 @@ module _ (inputs : ℕ) (phases : List ℕ) where
 
   pub no_input : (u : ℕ) → u < 54 → bit (rises_of inputs inputs phases) u ≡ false
   unfolding rise_of
-  no_input u h = rise_at u (omega arith) ∙ rw (lt-ltb u 54 h) (and_not (bit inputs u))
+  no_input u h = rise_at u (omega arith) ∙ rw (lt-ltb u 54 h) (and-not_self (bit inputs u))
 
   no_ground : (u : ℕ) → u < 55 → bit (rises_of inputs inputs phases) u ≡ false
   unfolding rise_of

@@ -6,7 +6,7 @@ use mathlib.Core.Path.{◌≡◌, sym, ◌∙◌}
 use borrow.Author.Tests.{eqb-true, not-false}
 use lib.Dec.{eqb}
 use lib.ListN.{length}
-use Rattle.bools.proofs.Tests.{and_left, and_right}
+use Rattle.std.proofs.lemmas.Bool.{and_parts}
 use Rattle.mirvacula.specs.Exported.{is_fitting, report_words}
 
 module _ (size : ℕ) (report words : List ℕ) (b : Bool) (e : b ≡ is_fitting size report words) (left : not b ≡ false) where
@@ -14,7 +14,7 @@ module _ (size : ℕ) (report words : List ℕ) (b : Bool) (e : b ≡ is_fitting
   fits = sym e ∙ not-false b left
 
   pub report_fits : length report ≡ report_words
-  report_fits = eqb-true (length report) report_words (and_left (eqb (length report) report_words) _ fits)
+  report_fits = eqb-true (length report) report_words (and_parts (eqb (length report) report_words) _ fits).0
 
   pub words_fit : length words ≡ size
-  words_fit = eqb-true (length words) size (and_right (eqb (length report) report_words) _ fits)
+  words_fit = eqb-true (length words) size (and_parts (eqb (length report) report_words) _ fits).1

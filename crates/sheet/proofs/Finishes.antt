@@ -11,7 +11,8 @@ use lib.Dec.{eqb, ltb}
 use lib.ListN.{get_or, length}
 use lib.Seq.{get_or-set_same, get_or-set_other}
 use Rattle.bools.specs.Pick.{pick}
-use Rattle.bools.proofs.Tests.{and_left, and_right, both, cases}
+use Rattle.bools.proofs.Tests.{both, cases}
+use Rattle.std.proofs.lemmas.Bool.{and_parts}
 use Rattle.lists.proofs.Tables.{get_d_tabulate, length_tabulate}
 use Rattle.loader.specs.declared.loader.Loader.{Loader}
 use Rattle.loader.specs.declared.loader.Queue.{Queue}
@@ -344,8 +345,8 @@ unfolding request_made called write_at
 made_write m a w r f h e =
     let cm = m.state.common in
     let b = made_by_lem cm w (eqb a 0x0A02 && triggers w cm) r e in
-    let p : a ≡ 0x0A02 = eqb-true a 0x0A02 (and_left _ _ b.0) in
-    let made = reload_made w cm (and_right (eqb a 0x0A02) _ b.0) b.1 in
+    let p : a ≡ 0x0A02 = eqb-true a 0x0A02 (and_parts _ _ b.0).0 in
+    let made = reload_made w cm (and_parts (eqb a 0x0A02) _ b.0).1 b.1 in
     rw (step_called m f (write a w), p, decode_reload, made)
     (due_request m w r (on_common m (with_reload (kept Reload w) (requested w cm))) f h (rw made at (reload_in w cm h)) b.1 b.2 refl (unfold requested in refl))
 
@@ -355,10 +356,10 @@ unfolding request_made called
 made_tag m t r f h e =
     let cm = m.state.common in
     let b = made_by_lem cm t (events_on cm && right_key cm t && eqb (command_of t) 1) r e in
-    let open_key = and_left (events_on cm && right_key cm t) _ b.0 in
-    let on = and_left (events_on cm) _ open_key in
-    let key = and_right (events_on cm) _ open_key in
-    let one = and_right (events_on cm && right_key cm t) _ b.0 in
+    let open_key = (and_parts (events_on cm && right_key cm t) _ b.0).0 in
+    let on = (and_parts (events_on cm) _ open_key).0 in
+    let key = (and_parts (events_on cm) _ open_key).1 in
+    let one = (and_parts (events_on cm && right_key cm t) _ b.0).1 in
     let made = tag_made m t on key one b.1 in
     rw (step_called m f (tag t))
     (due_request m t r (with_state m (tag_of m.state t)) f h ((tag_apart m t).1 h) b.1 b.2 (ap (λ (x : Common). x.queue) made)

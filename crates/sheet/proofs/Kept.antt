@@ -8,7 +8,8 @@ use mathlib.Core.Path.{◌≡◌, refl, ◌∙◌}
 use borrow.Author.Tests.{eq-eqb, eqb-true, lt-ltb, ltb-true}
 use lib.Dec.{eqb, ltb}
 use lib.ListN.{length, length-set}
-use Rattle.bools.proofs.Tests.{and_left, and_right, both, cases, pick_elim}
+use Rattle.bools.proofs.Tests.{both, cases, pick_elim}
+use Rattle.std.proofs.lemmas.Bool.{and_parts}
 use Rattle.words.proofs.Fields.{field_low}
 use Rattle.lists.proofs.Tables.{length_each, length_tabulate}
 use Rattle.counters.specs.declared.counter.Counter.{Counter}
@@ -187,12 +188,12 @@ pub holds_word : (S : Lines) (w : ℕ) → Fits S w → Holds S (lines_of w)
 unfolding lines_of
 holds_word S w f = record {
   inputs = λ i e.
-      let h : ltb i 54 ≡ true = and_left (ltb i 54) (eqb i (up_of w) || eqb i (down_of w)) e in
-      either (eqb i (up_of w)) (eqb i (down_of w)) (and_right (ltb i 54) (eqb i (up_of w) || eqb i (down_of w)) e)
+      let h : ltb i 54 ≡ true = (and_parts (ltb i 54) (eqb i (up_of w) || eqb i (down_of w)) e).0 in
+      either (eqb i (up_of w)) (eqb i (down_of w)) (and_parts (ltb i 54) (eqb i (up_of w) || eqb i (down_of w)) e).1
       (selected S.inputs 54 i (up_of w) h f.up)
       (selected S.inputs 54 i (down_of w) h f.down);
   gates = λ g e.
-      selected S.gates 12 g (gate_of w) (and_left (ltb g 12) (eqb g (gate_of w)) e) f.gate (and_right (ltb g 12) (eqb g (gate_of w)) e);
+      selected S.gates 12 g (gate_of w) (and_parts (ltb g 12) (eqb g (gate_of w)) e).0 f.gate (and_parts (ltb g 12) (eqb g (gate_of w)) e).1;
 }
 
 -- the stored word has the lines of the written one: all 16 bits are kept

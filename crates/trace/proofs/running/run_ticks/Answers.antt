@@ -5,7 +5,7 @@ use mathlib.Core.Bool.{Bool, true, false, not, ◌&&◌, true≢false}
 use mathlib.Core.Path.{◌≡◌, refl, sym, ap, ◌∙◌}
 use borrow.Author.Tests.{ltb-false, not-true}
 use lib.Dec.{ltb}
-use Rattle.bools.proofs.Tests.{and_left, and_right}
+use Rattle.std.proofs.lemmas.Bool.{and_parts}
 use Rattle.registers.specs.Calls.{from}
 use Rattle.device.specs.State.{Machine, machine}
 use Rattle.lines.specs.Lines.{bad_levels}
@@ -23,8 +23,8 @@ unfolding ticks_in
 returns-then-without c =
     let a = c.args in
     let spent : ltb (a.budget - a.p.report.ticks) a.n && not c.bad_levels-refused.result ≡ true = sym c.without.ensures ∙ c.if-without.true in
-    let good : bad_levels a.inputs a.gates ≡ false = sym c.bad_levels-refused.ensures ∙ not-true c.bad_levels-refused.result (and_right (ltb (a.budget - a.p.report.ticks) a.n) _ spent) in
-    rw (c.stop_by.ensures, good, and_left (ltb (a.budget - a.p.report.ticks) a.n) (not c.bad_levels-refused.result) spent)
+    let good : bad_levels a.inputs a.gates ≡ false = sym c.bad_levels-refused.ensures ∙ not-true c.bad_levels-refused.result (and_parts (ltb (a.budget - a.p.report.ticks) a.n) _ spent).1 in
+    rw (c.stop_by.ensures, good, (and_parts (ltb (a.budget - a.p.report.ticks) a.n) (not c.bad_levels-refused.result) spent).0)
 
 pub returns-then-refused : goal.returns-then-refused
 unfolding ticks_in passes from
