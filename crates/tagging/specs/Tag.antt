@@ -50,8 +50,9 @@ commanded s t =
 unfoldable pub tag_of : Crate → ℕ → Crate
 tag_of s t = pick (events_on s.common) (pick (right_key s.common t) (commanded (noted_in s t) t) (noted_in s t)) s
 
+-- a command is done, but for a request that is refused
+abbrev pub command_answer : Common → ℕ → Answer
+command_answer cm t = pick (eqb (command_of t) 1) (request_answer cm.queue (dataset_in t)) (Ok tt)
+
 unfoldable pub tag_answer : Common → ℕ → Answer
-tag_answer cm t =
-    pick (events_on cm)
-    (pick (right_key cm t) (pick (eqb (command_of t) 1) (request_answer cm.queue (dataset_in t)) (Ok tt)) (Ok tt))
-    (Ok tt)
+tag_answer cm t = pick (events_on cm) (pick (right_key cm t) (command_answer cm t) (Ok tt)) (Ok tt)

@@ -3,4 +3,4 @@
 
 mod events;
 
-pub use events::{tag_answer, tag_crate};
+pub use events::tag_crate;
