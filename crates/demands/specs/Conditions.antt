@@ -1,26 +1,24 @@
 -- Demand 1 on one page, to be laid beside document 01's "Causes of refusal": the conditions of each call in the order in which they are
 -- looked at, what each cause returns and what it leaves; then the checks of a record, in theirs.
-use Rattle.std.specs.Prelude.{ℕ, ◌+◌, ◌-◌, ◌*◌, Bool, true, false, not, ◌&&◌, List, [], ◌∷◌, ◌≡◌, eqb, ltb, length}
+use Rattle.std.specs.Prelude.{ℕ, ◌+◌, ◌-◌, ◌*◌, Bool, true, false, not, ◌&&◌, List, [], ◌∷◌, ◌≡◌, eqb, ltb, length, Result, Ok, Err}
 use Rattle.bools.specs.Pick.{pick}
-use Rattle.device.specs.declared.answer.Answer.{Answer}
-use Rattle.device.specs.declared.answer.Answer.TheVariants.{Done, Memory, Address, ReadOnly, Dataset, Full, Level, Length}
+use Rattle.device.specs.declared.answer.Refusal.{Refusal}
+use Rattle.device.specs.declared.answer.Refusal.TheVariants.{Memory, Address, ReadOnly, Dataset, Full, Level, Length}
 use Rattle.device.specs.declared.map.Register.{Register}
 use Rattle.device.specs.declared.map.Register.TheVariants.{Nothing, Readout, Other, Control, Mode, Timeout, Key, Enable, Reload, Prepare, Recover, Input, Group, Word}
-use Rattle.device.specs.Answer.{is_done, number_of}
+use Rattle.device.specs.Answer.{Answer, is_done, number_of}
 use Rattle.device.specs.Map.{decode_of}
 use Rattle.device.specs.State.{Machine, with_memory, with_state}
-use Rattle.interlocks.specs.Scan.{scan_by}
 use Rattle.interlocks.specs.Scan.{scanned as scan_in}
 use Rattle.lines.specs.Lines.{bad_levels}
 use Rattle.loader.specs.Loader.{is_beyond, is_full}
 use Rattle.loader.specs.Memory.{dataset_words, is_whole, replaced}
-use Rattle.reading.specs.Read.{read_by, word_in}
-use Rattle.records.specs.declared.Record.{Record}
-use Rattle.records.specs.declared.Record.TheVariants.{AtEnd, Malformed, Ticks, Write, Tag}
+use Rattle.reading.specs.Read.{word_in}
+use Rattle.records.specs.declared.Record.TheVariants.{Ticks, Write, Tag}
 use Rattle.records.specs.declared.Stop.{Stop}
 use Rattle.records.specs.declared.Stop.TheVariants.{End, Spent, UnknownTag, WrongLength, Cut, NoRepeat}
 use Rattle.records.specs.declared.Stop.TheVariants.{Memory as MemoryStop}
-use Rattle.records.specs.Records.{gate_bytes, header_bytes, input_bytes, is_known, length_at, number_at, payload_bytes, record_at, repeat_bytes, tag_at}
+use Rattle.records.specs.Records.{Found, gate_bytes, header_bytes, input_bytes, is_known, length_at, number_at, payload_bytes, record_at, repeat_bytes, tag_at}
 use Rattle.registers.specs.Calls.{Call, tick, write, tag, download}
 use Rattle.tagging.specs.Tag.{command_of, events_on, noted_in, right_key, tag_of}
 use Rattle.ticking.specs.Tick.{tick_of}
@@ -100,48 +98,54 @@ places_taken m = is_full m.state.common.queue
 -- "Every call on a crate is lent the memory, so 1 comes first; 4 before 5; 11 before 4."
 unfoldable pub conditions : Machine → Call → List (Condition Answer)
 conditions m (tick inputs gates) =
-    on Memory (not_whole m)
-    ∷ on Level (bad_levels inputs gates)
+    on (Err Memory) (not_whole m)
+    ∷ on (Err Level) (bad_levels inputs gates)
     ∷ []
 conditions m (write a w) =
-    on Memory (not_whole m)
-    ∷ on Address (is_outside (access_at a))
-    ∷ on ReadOnly (is_read_only (access_at a))
-    ∷ on Dataset (write_asks m a w && is_beyond (dataset_in w))
-    ∷ on Full (write_asks m a w && places_taken m)
+    on (Err Memory) (not_whole m)
+    ∷ on (Err Address) (is_outside (access_at a))
+    ∷ on (Err ReadOnly) (is_read_only (access_at a))
+    ∷ on (Err Dataset) (write_asks m a w && is_beyond (dataset_in w))
+    ∷ on (Err Full) (write_asks m a w && places_taken m)
     ∷ []
 conditions m (tag t) =
-    on Memory (not_whole m)
-    ∷ on Dataset (tag_asks m t && is_beyond (dataset_in t))
-    ∷ on Full (tag_asks m t && places_taken m)
+    on (Err Memory) (not_whole m)
+    ∷ on (Err Dataset) (tag_asks m t && is_beyond (dataset_in t))
+    ∷ on (Err Full) (tag_asks m t && places_taken m)
     ∷ []
 conditions m (download d words) =
-    on Memory (not_whole m)
-    ∷ on Length (not (eqb (length words) dataset_words))
-    ∷ on Dataset (is_beyond d)
+    on (Err Memory) (not_whole m)
+    ∷ on (Err Length) (not (eqb (length words) dataset_words))
+    ∷ on (Err Dataset) (is_beyond d)
     ∷ []
 
 -- a power-up, on a memory
 abbrev pub power_up_conditions : List ℕ → List (Condition Answer)
-power_up_conditions memory = on Memory (not (is_whole memory)) ∷ []
+power_up_conditions memory = on (Err Memory) (not (is_whole memory)) ∷ []
 
 unfoldable pub conditions_of : Machine → Act → List (Condition Answer)
 conditions_of m (calling x) = conditions m x
-conditions_of m (reading a) = on Memory (not_whole m) ∷ on Address (is_outside (access_at a)) ∷ []
-conditions_of m scanning = on Memory (not_whole m) ∷ []
-conditions_of m (tracing t budget) = on Memory (not_whole m) ∷ []
+conditions_of m (reading a) = on (Err Memory) (not_whole m) ∷ on (Err Address) (is_outside (access_at a)) ∷ []
+conditions_of m scanning = on (Err Memory) (not_whole m) ∷ []
+conditions_of m (tracing t budget) = on (Err Memory) (not_whole m) ∷ []
 
--- Done, or the first cause whose condition holds; its number of 01's table is `number_of` of it (device/specs/Answer.antt)
+-- accepted, or the first cause whose condition holds; its number of 01's table is `number_of` of it (device/specs/Answer.antt)
 abbrev pub cause_of : Machine → Act → Answer
-cause_of m x = first (conditions_of m x) Done
+cause_of m x = first (conditions_of m x) (Ok tt)
 
 -- ---- "Returned"
 
--- "number"; "number, word 0"; for a scan "the number and zeros", for a run "the number and zeros in the rest of its report"
+-- what an accepted read or scan gives, or the cause
+abbrev pub giving : {A : Type 0} → Answer → A → Result A Refusal
+giving (Ok _) x = Ok x
+giving (Err cause) x = Err cause
+
+-- "number"; for a read "number, word 0" and for a scan "the number and zeros", of which a refused one has the number alone here; for a run
+-- "the number and zeros in the rest of its report"
 unfoldable pub shown_by : Machine → Act → Answer → Seen
 shown_by m (calling x) a = answered a (number_of a)
-shown_by m (reading b) a = told (read_by a (pick (is_done a) (word_in m (decode_of b)) 0)) (number_of a)
-shown_by m scanning a = scanned (pick (is_done a) (scan_in m.state) (scan_by a (λ o. 0) (λ o. 0))) (number_of a)
+shown_by m (reading b) a = told (giving a (word_in m (decode_of b))) (number_of a)
+shown_by m scanning a = scanned (giving a (scan_in m.state)) (number_of a)
 shown_by m (tracing t budget) a = numbered (pick (is_done a) (run_of t budget m).progress.report (report_of MemoryStop 0 0 0 0))
 
 -- ---- "Left as it was"
@@ -167,14 +171,14 @@ all_but_tag m scanning = m
 all_but_tag m (tracing t budget) = m
 
 unfoldable pub left_by : Machine → Act → Answer → Machine
-left_by m x Done = work_of m x
-left_by m x Memory = m
-left_by m x Address = m
-left_by m x ReadOnly = m
-left_by m x Dataset = all_but_tag m x
-left_by m x Full = all_but_tag m x
-left_by m x Level = m
-left_by m x Length = m
+left_by m x (Ok _) = work_of m x
+left_by m x (Err Memory) = m
+left_by m x (Err Address) = m
+left_by m x (Err ReadOnly) = m
+left_by m x (Err Dataset) = all_but_tag m x
+left_by m x (Err Full) = all_but_tag m x
+left_by m x (Err Level) = m
+left_by m x (Err Length) = m
 
 -- ---- the records of a run
 
@@ -218,23 +222,21 @@ abbrev pub fate_of : List ℕ → ℕ → ℕ → Fate
 fate_of t at ticksleft = first (checks t at ticksleft) passed_on
 
 -- the ticks that a passed record uses, and whether its call is refused
-abbrev pub ticks_used : Record → ℕ
-ticks_used AtEnd = 0
-ticks_used (Malformed stop) = 0
-ticks_used (Ticks n inputs gates) = n
-ticks_used (Write a w) = 0
-ticks_used (Tag e) = 0
+abbrev pub ticks_used : Found → ℕ
+ticks_used (Err stop) = 0
+ticks_used (Ok (Ticks n levels)) = n
+ticks_used (Ok (Write a w)) = 0
+ticks_used (Ok (Tag e)) = 0
 
-abbrev pub refused_in : Machine → Record → Bool
-refused_in m AtEnd = false
-refused_in m (Malformed stop) = false
-refused_in m (Ticks n inputs gates) = false
-refused_in m (Write a w) = not (is_done (cause_of m (calling (write a w))))
-refused_in m (Tag e) = not (is_done (cause_of m (calling (tag e))))
+abbrev pub refused_in : Machine → Found → Bool
+refused_in m (Err stop) = false
+refused_in m (Ok (Ticks n levels)) = false
+refused_in m (Ok (Write a w)) = not (is_done (cause_of m (calling (write a w))))
+refused_in m (Ok (Tag e)) = not (is_done (cause_of m (calling (tag e))))
 
 -- the run behind that record, `next`: it stops, and all is as it was; or the calls of the record are made, and "A call refused by 2 to 6
 -- counts once and the run goes on, using no ticks"
-unfoldable pub gone_by : List ℕ → Run → Record → Fate → Run
+unfoldable pub gone_by : List ℕ → Run → Found → Fate → Run
 gone_by t r next (stopped stop) = stops_by stop r
 gone_by t r next refused_tick = passes t r (calls_of next) 0 true
 gone_by t r next passed_on = passes t r (calls_of next) (ticks_used next) (refused_in (machine_of r) next)
@@ -252,13 +254,12 @@ pub data Goes (t : List ℕ) (budget : ℕ) (q : Run) : Run → Type 0 where
   goes_on : (r : Run) → (next_run t budget r).progress.going ≡ true → Goes t budget q (next_run t budget r) → Goes t budget q r
 
 -- "A record is a tag byte, a two-byte length, a payload" of 11 or 4 bytes: what the records that a run passes take, and so where the next stands
-abbrev pub bytes_of : Record → ℕ
-bytes_of AtEnd = 0
-bytes_of (Malformed stop) = 0
-bytes_of (Ticks n inputs gates) = 14
-bytes_of (Write a w) = 7
-bytes_of (Tag e) = 7
+abbrev pub bytes_of : Found → ℕ
+bytes_of (Err stop) = 0
+bytes_of (Ok (Ticks n levels)) = 14
+bytes_of (Ok (Write a w)) = 7
+bytes_of (Ok (Tag e)) = 7
 
-abbrev pub bytes_in : List Record → ℕ
+abbrev pub bytes_in : List Found → ℕ
 bytes_in [] = 0
 bytes_in (r ∷ rs) = bytes_of r + bytes_in rs

@@ -1,11 +1,9 @@
 -- Demand 2 on one page: all that is to be seen of a list of calls, reads, scans and trace runs.
-use Rattle.std.specs.Prelude.{ℕ, List, [], ◌∷◌, ◌++◌}
-use Rattle.device.specs.declared.answer.Answer.{Answer}
-use Rattle.device.specs.declared.answer.Answer.TheVariants.{Done}
-use Rattle.device.specs.declared.answer.Read.{Read}
-use Rattle.device.specs.Answer.{number_of}
+use Rattle.std.specs.Prelude.{ℕ, List, [], ◌∷◌, ◌++◌, Result, Ok}
+use Rattle.device.specs.declared.answer.Refusal.{Refusal}
+use Rattle.device.specs.Answer.{Answer, number_of}
 use Rattle.device.specs.State.{Machine}
-use Rattle.interlocks.specs.declared.scan.Scan.{Scan}
+use Rattle.interlocks.specs.declared.scan.OutputScan.{OutputScan}
 use Rattle.interlocks.specs.Scan.{scan_of}
 use Rattle.reading.specs.Read.{read_of}
 use Rattle.records.specs.Stops.{stop_number}
@@ -24,8 +22,8 @@ pub data Act : Type 0 where
 -- what it shows: an answer, a read's with its word, a scan's with levels and words read, a run's report; each with its number of 01's table
 pub data Seen : Type 0 where
   answered : Answer → ℕ → Seen
-  told : Read → ℕ → Seen
-  scanned : Scan → ℕ → Seen
+  told : Result ℕ Refusal → ℕ → Seen
+  scanned : Result (List OutputScan) Refusal → ℕ → Seen
   reported : Report → ℕ → Seen
 
 -- what an act is to show on crate and memory m: the answer of 01's conditions, the word that the Manual, completed by 01, defines, and
@@ -35,8 +33,8 @@ numbered r = reported r (stop_number r.stop)
 
 unfoldable pub showing : Machine → Act → Seen
 showing m (calling x) = answered (answer m x) (number_of (answer m x))
-showing m (reading a) = told (read_of m a) (number_of (read_of m a).answer)
-showing m scanning = scanned (scan_of m) (number_of (scan_of m).answer)
+showing m (reading a) = told (read_of m a) (number_of (read_of m a))
+showing m scanning = scanned (scan_of m) (number_of (scan_of m))
 showing m (tracing t budget) = numbered (run_of t budget m).progress.report
 
 -- "a trace run stands in it for the calls of the records it passes"; reads and scans change nothing and stand for none
@@ -71,4 +69,4 @@ seen_from m (x ∷ l) = showing m x ∷ seen_from (leaving m x) l
 
 -- from power-up on, which is accepted
 unfoldable pub seen_of : List Act → List Seen
-seen_of l = answered Done 0 ∷ seen_from machine0 l
+seen_of l = answered (Ok tt) 0 ∷ seen_from machine0 l
