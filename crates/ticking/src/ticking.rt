@@ -2,6 +2,7 @@
 ghost use Rattle.std.specs.Prelude.{◌≡◌};
 ghost use Rattle.ticking.specs.Tick.{common_tick, handled_by, rest_tick, tick_of};
 
+use counters::Drive;
 use device::{Common, Crate, Events, Rest};
 use gates::Gate;
 use lines::Levels;
@@ -45,7 +46,13 @@ pub fn tick_crate(s: &mut Crate, mem: &[u16; 16384], levels: Levels)
     let was = gates::gate_bits(&s.gates, |g| g.output);
     gates::change_gates(&mut s.gates, levels.gates, Gate::step);
     let is = gates::gate_bits(&s.gates, |g| g.output);
-    counters::tick_counters(&mut s.counters, s.common.control, rises, was, is);
+    let drive = Drive {
+        control: s.common.control,
+        rises,
+        was,
+        is,
+    };
+    counters::tick_counters(&mut s.counters, drive);
     loader::load_into(loader, &s.groups, mem, &mut s.counters);
     tick_common(&mut s.common);
     lines::count_rises(&mut s.rest.rawcounts, rises);
