@@ -4,12 +4,12 @@ use native.Mathlib.Nat.{sub-zero}
 use native.Mathlib.Omega.{arith}
 use mathlib.Core.Bool.{Bool, true, false, ◌&&◌}
 use mathlib.Core.List.{List, [], ◌∷◌}
-use mathlib.Core.Option.{none, some}
 use mathlib.Core.Path.{◌≡◌, refl, ap, ◌∙◌}
 use borrow.Author.Tests.{eqb-true, eqb-false, ltb-true, ltb-false, lt-ltb, le-ltb, ne_eqb}
 use lib.Dec.{eqb, ltb}
 use lib.ListN.{get_or, length}
 use lib.Seq.{get_or-set_same, get_or-set_other}
+use Rattle.std.proofs.Common.{Option, Some, None}
 use Rattle.bools.specs.Pick.{pick}
 use Rattle.bools.proofs.Tests.{both, cases}
 use Rattle.std.proofs.lemmas.Bool.{and_parts}
@@ -307,17 +307,17 @@ due_pushed m m' r f h h' free q l = record {
   left = ap (λ (x : Loader). ticks_left x (waits (ahead m))) l;
 }
 
-made_by_lem : (cm : Common) (w : ℕ) (asks : Bool) (r : Request) → made_by cm w asks ≡ some r →
+made_by_lem : (cm : Common) (w : ℕ) (asks : Bool) (r : Request) → made_by cm w asks ≡ Some r →
     (asks ≡ true) × (is_done (request_answer cm.queue (dataset_in w)) ≡ true) × (request_for (dataset_in w) (group_in w) ≡ r)
 made_by_lem cm w true r e =
     cases (is_done (request_answer cm.queue (dataset_in w)))
     (λ f. (refl, f, some_same _ r (rw f at e)))
     (λ f. absurd (none_some r (rw f at e)))
   where
-    some_same : (a b : Request) → some a ≡ some b → a ≡ b
+    some_same : (a b : Request) → Some a ≡ Some b → a ≡ b
     some_same a b p = cc
 
-    none_some : (b : Request) → none ≡ some b → ⊥
+    none_some : (b : Request) → None ≡ Some b → ⊥
     none_some b p = let z : ◌≡◌ {A = ℕ} 0 1 = cc in omega arith
 made_by_lem cm w false r e = absurd (let z : ◌≡◌ {A = ℕ} 0 1 = cc in omega arith)
 
@@ -339,7 +339,7 @@ unfolding requested
 due_request m w r m' f h h' e same-request q l =
     due_pushed m m' r f h h' (taken m.state.common.queue (dataset_in w) e).1 (q ∙ ap (pushed m.state.common.queue) same-request) l
 
-made_write : (m : Machine) (a w : ℕ) (r : Request) → Full m → CommonInRange m.state.common → request_made m (write a w) ≡ some r →
+made_write : (m : Machine) (a w : ℕ) (r : Request) → Full m → CommonInRange m.state.common → request_made m (write a w) ≡ Some r →
     Due (step m (write a w)) r (waits (ahead m)) (work m + 129 * (ahead m + 1))
 unfolding request_made called write_at
 made_write m a w r f h e =
@@ -350,7 +350,7 @@ made_write m a w r f h e =
     rw (step_called m f (write a w), p, decode_reload, made)
     (due_request m w r (on_common m (with_reload (kept Reload w) (requested w cm))) f h (rw made at (reload_in w cm h)) b.1 b.2 refl (unfold requested in refl))
 
-made_tag : (m : Machine) (t : ℕ) (r : Request) → Full m → CommonInRange m.state.common → request_made m (tag t) ≡ some r →
+made_tag : (m : Machine) (t : ℕ) (r : Request) → Full m → CommonInRange m.state.common → request_made m (tag t) ≡ Some r →
     Due (step m (tag t)) r (waits (ahead m)) (work m + 129 * (ahead m + 1))
 unfolding request_made called
 made_tag m t r f h e =
@@ -365,7 +365,7 @@ made_tag m t r f h e =
     (due_request m t r (with_state m (tag_of m.state t)) f h ((tag_apart m t).1 h) b.1 b.2 (ap (λ (x : Common). x.queue) made)
     (ap (λ (x : Common). x.loader) made ∙ (unfold requested in refl)))
 
-due_made : (m : Machine) (x : Call) (r : Request) → Full m → CommonInRange m.state.common → request_made m x ≡ some r →
+due_made : (m : Machine) (x : Call) (r : Request) → Full m → CommonInRange m.state.common → request_made m x ≡ Some r →
     Due (step m x) r (waits (ahead m)) (work m + 129 * (ahead m + 1))
 unfolding request_made
 due_made m (tick inputs gates) r f h e = absurd (let z : ◌≡◌ {A = ℕ} 0 1 = cc in omega arith)
@@ -411,7 +411,7 @@ range_after : (l : List Call) → CommonInRange (after l).state.common
 unfolding after power_up
 range_after l = range_from machine0 full_start l common_start
 
-module _ (l : List Call) (x : Call) (r : Request) (made : request_made (after l) x ≡ some r) where
+module _ (l : List Call) (x : Call) (r : Request) (made : request_made (after l) x ≡ Some r) where
   due_after : (k : List Call) →
       Due (from (step (after l) x) k) r (stand_after (step (after l) x) k (waits (ahead (after l)))) (work (after l) + 129 * (ahead (after l) + 1) - accepted_ticks k)
   due_after k = due_from (step (after l) x) k r _ _ (due_made (after l) x r (full_after l) (range_after l) made)

@@ -2,8 +2,8 @@
 use Prim.Native.Nat.{ℕ, ◌<◌}
 use native.Mathlib.Omega.{arith}
 use mathlib.Core.List.{List, [], ◌∷◌, ◌++◌}
-use mathlib.Core.Option.{Option, none, some}
 use mathlib.Core.Path.{◌≡◌, refl, sym, ap, ◌∙◌}
+use Rattle.std.proofs.Common.{Option, Some, None}
 use Rattle.counters.specs.Counter.{counter_at}
 use Rattle.registers.specs.Calls.{Call, after, from, machine0, step}
 use Rattle.device.specs.State.{Machine}
@@ -74,8 +74,8 @@ alike_cut c c< l₁ l₂ m₁ m₂ e =
 
 added_append : (o : Option Part) (ps qs : List Part) → added o (ps ++ qs) ≡ added o ps ++ qs
 unfolding added
-added_append none ps qs = refl
-added_append (some p) ps qs = refl
+added_append None ps qs = refl
+added_append (Some p) ps qs = refl
 
 pub own_part_append : (S : Lines) (c : ℕ) (l₁ l₂ : List Call) → own_part S c (l₁ ++ l₂) ≡ own_part S c l₁ ++ own_part S c l₂
 unfolding own_part
@@ -86,11 +86,11 @@ cut_call : (S : Lines) (c : ℕ) (x : Call) (l : List Call) (ps qs : List Part) 
     ((ps qs : List Part) → own_part S c l ≡ ps ++ qs → Cut S c l ps) →
     (o : Option Part) → own S c x ≡ o → added o (own_part S c l) ≡ ps ++ qs → Cut S c (x ∷ l) ps
 unfolding own_part added
-cut_call S c x l ps qs more none f e =
+cut_call S c x l ps qs more None f e =
     let r = more ps qs e in
     record { first = x ∷ r.first; rest = r.rest; whole = ap {B = List Call} (λ k. x ∷ k) r.whole; part = rw f r.part }
-cut_call S c x l [] qs more (some p) f e = record { first = []; rest = x ∷ l; whole = refl; part = refl }
-cut_call S c x l (q ∷ ps) qs more (some p) f e =
+cut_call S c x l [] qs more (Some p) f e = record { first = []; rest = x ∷ l; whole = refl; part = refl }
+cut_call S c x l (q ∷ ps) qs more (Some p) f e =
     let r = more ps qs (cc) in
     let s : p ≡ q = cc in
     record { first = x ∷ r.first; rest = r.rest; whole = ap {B = List Call} (λ k. x ∷ k) r.whole; part = rw (f, s, r.part) }

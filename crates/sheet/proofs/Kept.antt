@@ -3,11 +3,11 @@ use Prim.Native.Nat.{ℕ, ◌/◌, ◌<◌}
 use native.Mathlib.Omega.{arith}
 use mathlib.Core.Bool.{Bool, true, false, ◌&&◌, ◌||◌, false≢true, or-true}
 use mathlib.Core.List.{List}
-use mathlib.Core.Option.{Option, none, some}
 use mathlib.Core.Path.{◌≡◌, refl, ◌∙◌}
 use borrow.Author.Tests.{eq-eqb, eqb-true, lt-ltb, ltb-true}
 use lib.Dec.{eqb, ltb}
 use lib.ListN.{length, length-set}
+use Rattle.std.proofs.Common.{Option, Some, None}
 use Rattle.bools.proofs.Tests.{both, cases, pick_elim}
 use Rattle.std.proofs.lemmas.Bool.{and_parts}
 use Rattle.words.proofs.Fields.{field_low}
@@ -222,8 +222,8 @@ part_lines (tagged t) = no_lines
 part_lines (downloaded d size four) = no_lines
 
 abbrev pub lines_by : Option Part → Lines
-lines_by none = no_lines
-lines_by (some p) = part_lines p
+lines_by None = no_lines
+lines_by (Some p) = part_lines p
 
 lines_write : (S : Lines) (c : ℕ) (r : Register) (w : ℕ) → lines_by (own_at S c r w) ≡ lines_at c r w
 unfolding own_at lines_at
@@ -303,8 +303,8 @@ module _ (S : Lines) (c : ℕ) (s : Sheet) (fit : Fits S s.counter.input) where
   fits_part (downloaded d size four) h = both Fit (is_done (download_answer d size)) fit fit
 
   fits_by : (o : Option Part) → Holds S (lines_by o) → Fit (sheet_step_by c s o)
-  fits_by none h = fit
-  fits_by (some p) h = fits_part p h
+  fits_by None h = fit
+  fits_by (Some p) h = fits_part p h
 
   pub fits : (x : Call) → Holds S (lines_in c x) → Fit (sheet_step_by c s (own S c x))
   fits x h = fits_by (own S c x) (rw (lines_call S c x) h)

@@ -4,9 +4,9 @@ use native.Mathlib.Omega.{arith}
 use mathlib.Core.Bool.{Bool, true, false}
 use mathlib.Core.List.{List, [], ◌∷◌, ◌++◌}
 use mathlib.Core.Logic.{◌↔◌}
-use mathlib.Core.Option.{Option, none, some}
 use mathlib.Core.Path.{◌≡◌, refl, sym, ap, ◌∙◌}
 use borrow.Author.Tests.{eqb-true}
+use Rattle.std.proofs.Common.{Option, Some, None}
 use Rattle.bools.proofs.Tests.{cases}
 use Rattle.device.specs.declared.map.Register.TheVariants.{Input}
 use Rattle.device.specs.Map.{kept}
@@ -90,8 +90,8 @@ parts_lines (p ∷ parts) = join (part_lines p) (parts_lines parts)
 
 lines_added : (o : Option Part) (parts : List Part) → parts_lines (added o parts) ≡ join (lines_by o) (parts_lines parts)
 unfolding added parts_lines join
-lines_added none parts = refl
-lines_added (some p) parts = refl
+lines_added None parts = refl
+lines_added (Some p) parts = refl
 
 -- the own lines can be read off the own part, whatever set it was taken with
 lines_parts : (S : Lines) (c : ℕ) (l : List Call) → parts_lines (own_part S c l) ≡ own_lines c l

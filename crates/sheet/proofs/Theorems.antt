@@ -4,20 +4,20 @@ use native.Mathlib.Nat.{zero-add}
 use mathlib.Core.Bool.{Bool, true, false}
 use mathlib.Core.List.{List, ◌++◌}
 use mathlib.Core.Logic.{◌↔◌}
-use mathlib.Core.Option.{some}
 use mathlib.Core.Path.{◌≡◌, sym, ap, ◌∙◌}
-use lib.ListN.{get_or, length}
-use Rattle.words.specs.Word.{bit, bit_of}
+use lib.ListN.{length}
+use Rattle.std.proofs.Common.{Ok, Some}
+use Rattle.std.specs.Result.{result_unwrap_or}
+use Rattle.words.specs.Word.{bit}
 use Rattle.loader.specs.declared.loader.Request.{Request}
 use Rattle.loader.specs.Memory.{is_whole}
-use Rattle.device.specs.declared.answer.Answer.TheVariants.{Done}
 use Rattle.device.specs.declared.map.Register.TheVariants.{Nothing}
 use Rattle.device.specs.Answer.{is_done}
 use Rattle.registers.specs.Calls.{Call, write, accepted_ticks, after, answer, from, left_by_refusal, refusals, step}
 use Rattle.device.specs.Map.{decode_of, kept}
 use Rattle.interlocks.specs.Interlock.{trips}
 use Rattle.interlocks.specs.Scan.{scan_of}
-use Rattle.reading.specs.Read.{low_first, read_by, read_of}
+use Rattle.reading.specs.Read.{low_first, read_of}
 use Rattle.device.specs.State.{Machine}
 use Rattle.registers.proofs.Refused as refusing
 use Rattle.trace.specs.Passed.{calls_in, passed_in}
@@ -31,6 +31,7 @@ use Rattle.sheet.specs.OwnPart.{Cut, Part, own_part, own_part_of}
 use Rattle.sheet.specs.Raw.{levels_of, raw_count, rises_in}
 use Rattle.sheet.specs.Reachable.{OfWords, Reached}
 use Rattle.sheet.specs.Requests.{Stands, finished, request_made, stand_after, waits}
+use Rattle.sheet.specs.Scans.{scan_at}
 use Rattle.sheet.specs.Settled.{SettledCut, repeats, settled, settled_part_of}
 use Rattle.sheet.specs.Sheet.{sheet_after, sheet_shows, sheet_step}
 use Rattle.sheet.specs.Shows.{shows}
@@ -108,13 +109,13 @@ settled_by_one = comparing.settled_by_one
 
 -- A request that call x makes after the list l, with k waiting ahead of it, is finished after every list with 128 + 129 × (k + 1) accepted
 -- ticks, whatever else is in that list.
-pub finishes : (l : List Call) (x : Call) (r : Request) → request_made (after l) x ≡ some r →
+pub finishes : (l : List Call) (x : Call) (r : Request) → request_made (after l) x ≡ Some r →
     (more : List Call) → 128 + 129 * ((after l).state.common.queue.waiting + 1) ≤ accepted_ticks more →
     stand_after (step (after l) x) more (waits (after l).state.common.queue.waiting) ≡ finished
 finishes = finishing.finishes
 
 -- Until then it stands where `stand_after` says: in its place of the queue, never lost, doubled or overtaken, or in the loader.
-pub stands : (l : List Call) (x : Call) (r : Request) → request_made (after l) x ≡ some r → (more : List Call) →
+pub stands : (l : List Call) (x : Call) (r : Request) → request_made (after l) x ≡ Some r → (more : List Call) →
     Stands (from (step (after l) x) more).state.common r
     (stand_after (step (after l) x) more (waits (after l).state.common.queue.waiting))
 stands = finishing.stands
@@ -128,8 +129,8 @@ pub refused : (m : Machine) (x : Call) → is_done (answer m x) ≡ false → st
 refused = refusing.refused
 
 -- Demand 2, over the whole map: after an accepted write a read of the same register gives the word less its unused bits ..
-pub read_back : (l : List Call) (a w : ℕ) → answer (after l) (write a w) ≡ Done →
-    read_of (step (after l) (write a w)) a ≡ read_by Done (kept (decode_of a) w)
+pub read_back : (l : List Call) (a w : ℕ) → answer (after l) (write a w) ≡ Ok tt →
+    read_of (step (after l) (write a w)) a ≡ Ok (kept (decode_of a) w)
 read_back = reading.read_back
 
 -- .. and a read at any other address gives what it gave, but for the side effects that `follows` names.
@@ -143,31 +144,31 @@ one_address = placing.one_address
 
 -- Document 02, request 1: after every list of calls the words at 0x1300 + 2 × i and the address after it are the low and the high word of the
 -- number of rises of input i over the accepted ticks, modulo 2^32 (`raw_count`); j counts the words of the block.
-pub raw_reads : (j : ℕ) → j < 108 → (l : List Call) → read_of (after l) (0x1300 + j) ≡ read_by Done (low_first j (raw_count (j / 2) l))
+pub raw_reads : (j : ℕ) → j < 108 → (l : List Call) → read_of (after l) (0x1300 + j) ≡ Ok (low_first j (raw_count (j / 2) l))
 raw_reads = counting.raw_reads
 
 -- So no gate, selection or clear matters to it: two lists whose accepted ticks have the same levels of that input read alike there.
 pub raw_alike : (j : ℕ) → j < 108 → (l m : List Call) → levels_of (j / 2) l ≡ levels_of (j / 2) m →
     read_of (after l) (0x1300 + j) ≡ read_of (after m) (0x1300 + j)
 raw_alike j b l m e =
-    raw_reads j b l ∙ ap (λ (levels : List Bool). read_by Done (low_first j (rises_in false levels % 2 ^ 32))) e ∙ sym (raw_reads j b m)
+    raw_reads j b l ∙ ap (λ (levels : List Bool). Ok (low_first j (rises_in false levels % 2 ^ 32))) e ∙ sym (raw_reads j b m)
 
 -- Document 02, CR 3, for every crate and memory, so after every list
 module _ (m : Machine) (o : ℕ) (h : o < 6) where
   -- The level that a scan gives of output o is bit o of what a read of 0x0719 gives.
-  pub scan_level : get_or (scan_of m).levels o 0 ≡ bit_of (bit (read_of m 0x0719).word o)
+  pub scan_level : (scan_at (scan_of m) o).level ≡ bit (result_unwrap_or (read_of m 0x0719) 0) o
   scan_level = scanning.scan_level m o h
 
   -- No fewer of its first selection words than those read make it 0.
-  pub scan_least : (w : ℕ) → w < get_or (scan_of m).words o 0 → trips m.state o w ≡ false
+  pub scan_least : (w : ℕ) → w < (scan_at (scan_of m) o).words → trips m.state o w ≡ false
   scan_least = scanning.scan_least m o h
 
   -- Those read do, where it is 0 and the memory has 16,384 words, as it has after every list (`code_scan_ends`).
-  pub scan_ends : is_whole m.memory ≡ true → get_or (scan_of m).levels o 0 ≡ 0 → trips m.state o (get_or (scan_of m).words o 0) ≡ true
+  pub scan_ends : is_whole m.memory ≡ true → (scan_at (scan_of m) o).level ≡ false → trips m.state o (scan_at (scan_of m) o).words ≡ true
   scan_ends = scanning.scan_ends m o h
 
   -- All are read where it is 1.
-  pub scan_whole : get_or (scan_of m).levels o 0 ≡ 1 → get_or (scan_of m).words o 0 ≡ 22
+  pub scan_whole : (scan_at (scan_of m) o).level ≡ true → (scan_at (scan_of m) o).words ≡ 22
   scan_whole = scanning.scan_whole m o h
 
 -- A trace run stands for the calls of the records that it passes: it leaves the crate and memory that they leave, and its records, ticks and

@@ -5,6 +5,7 @@ pub mod Raw
 pub mod Reachable
 pub mod Requests
 pub mod Returned
+pub mod Scans
 pub mod Settled
 pub mod Sheet
 pub mod Shows

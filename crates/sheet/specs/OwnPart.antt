@@ -1,7 +1,6 @@
 -- Document 01, "The one-counter sheet": c's own part of a list.
 -- In: own lines S, a counter, a list of calls. Out: the list of what the sheet is fed. Bits of other lines are 0 in it.
-use Rattle.std.specs.Prelude.{ℕ, ◌+◌, ◌*◌, ◌/◌, ◌%◌, Bool, ◌||◌, List, [], ◌∷◌, ◌++◌, ◌≡◌, eqb, get_or, length}
-use Rattle.std.proofs.Math.Option.{Option, none, some}
+use Rattle.std.specs.Prelude.{ℕ, ◌+◌, ◌*◌, ◌/◌, ◌%◌, Bool, ◌||◌, Option, Some, None, List, [], ◌∷◌, ◌++◌, ◌≡◌, eqb, get_or, length}
 use Rattle.bools.specs.Pick.{pick}
 use Rattle.words.specs.Word.{masked_bits, nibble}
 use Rattle.lists.specs.Table.{tabulate}
@@ -45,20 +44,20 @@ own_word i = 4 * (i / dataset_words) + i % 4
 
 -- "a write elsewhere drops out"
 unfoldable pub own_at : Lines → ℕ → Register → ℕ → Option Part
-own_at S c Nothing w = none
-own_at S c (Readout r) w = none
-own_at S c (Other r) w = none
-own_at S c Control w = some (controlled w)
-own_at S c Mode w = some (moded (masked_bits gate_count S.gates w))
-own_at S c (Timeout g) w = pick (S.gates g) (some (timed g w)) none
-own_at S c Key w = some (keyed w)
-own_at S c Enable w = some (enabled w)
-own_at S c Reload w = some (reloaded w)
-own_at S c Prepare w = some (prepared (masked_bits gate_count S.gates w))
-own_at S c Recover w = some (recovered (masked_bits gate_count S.gates w))
-own_at S c (Input n) w = pick (eqb c n) (some (patched w)) none
-own_at S c (Group k) w = pick (eqb (c / 4) k) (some (grouped (nibble w (c % 4)))) none
-own_at S c (Word i) w = pick (is_own_word c i) (some (stored (own_word i) w)) none
+own_at S c Nothing w = None
+own_at S c (Readout r) w = None
+own_at S c (Other r) w = None
+own_at S c Control w = Some (controlled w)
+own_at S c Mode w = Some (moded (masked_bits gate_count S.gates w))
+own_at S c (Timeout g) w = pick (S.gates g) (Some (timed g w)) None
+own_at S c Key w = Some (keyed w)
+own_at S c Enable w = Some (enabled w)
+own_at S c Reload w = Some (reloaded w)
+own_at S c Prepare w = Some (prepared (masked_bits gate_count S.gates w))
+own_at S c Recover w = Some (recovered (masked_bits gate_count S.gates w))
+own_at S c (Input n) w = pick (eqb c n) (Some (patched w)) None
+own_at S c (Group k) w = pick (eqb (c / 4) k) (Some (grouped (nibble w (c % 4)))) None
+own_at S c (Word i) w = pick (is_own_word c i) (Some (stored (own_word i) w)) None
 
 -- "of a tag, all but the bits of other gates in commands 0x2 and 0x3"
 unfoldable pub own_tag : Lines → ℕ → ℕ
@@ -70,14 +69,14 @@ four_of c words = pick (eqb (length words) dataset_words) (tabulate 4 (λ j. get
 
 unfoldable pub own : Lines → ℕ → Call → Option Part
 own S c (tick inputs gates) =
-    some (ticked (bad_levels inputs gates) (masked_bits input_count S.inputs inputs) (masked_bits gate_count S.gates gates))
+    Some (ticked (bad_levels inputs gates) (masked_bits input_count S.inputs inputs) (masked_bits gate_count S.gates gates))
 own S c (write a w) = own_at S c (decode_of a) w
-own S c (tag t) = some (tagged (own_tag S t))
-own S c (download d words) = some (downloaded d (length words) (four_of c words))
+own S c (tag t) = Some (tagged (own_tag S t))
+own S c (download d words) = Some (downloaded d (length words) (four_of c words))
 
 unfoldable pub added : Option Part → List Part → List Part
-added none parts = parts
-added (some p) parts = p ∷ parts
+added None parts = parts
+added (Some p) parts = p ∷ parts
 
 -- the own part of a list, taken with the lines S
 unfoldable pub own_part : Lines → ℕ → List Call → List Part

@@ -1,9 +1,10 @@
 -- What holds of every crate and memory that a list from power-up reaches: ranges, unused bits 0, counts 0 while RESET is set.
-use Rattle.std.specs.Prelude.{ℕ, ◌*◌, ◌^◌, ◌≤◌, ◌<◌, true, List, [], ◌∷◌, ◌≡◌, pos, get_or, length}
+use Rattle.std.specs.Prelude.{ℕ, ◌*◌, ◌^◌, ◌≤◌, ◌<◌, true, Option, Some, None, List, [], ◌∷◌, ◌≡◌, pos, get_or, length}
 use Rattle.std.specs.Int.Signed.{mag}
 use Rattle.counters.specs.declared.counter.Counter.{Counter}
 use Rattle.gates.specs.declared.gate.Gate.{Gate}
 use Rattle.loader.specs.declared.loader.Queue.{Queue}
+use Rattle.loader.specs.declared.loader.Reload.{Reload as Reloading}
 use Rattle.loader.specs.declared.loader.Request.{Request}
 use Rattle.counters.specs.Counter.{counter_at, reset_on}
 use Rattle.gates.specs.Gate.{gate_at, timeout_unit}
@@ -43,14 +44,23 @@ pub record QueueInRange (q : Queue) : Type 0 where
   pub waiting : q.waiting ≤ 16
   pub requests : (i : ℕ) → RequestInRange (get_or q.places i request0)
 
+-- a busy loader's request, and the counter that it handles next
+pub record ReloadingInRange (l : Reloading) : Type 0 where
+  pub request : RequestInRange l.request
+  pub next : l.next < 128
+
+-- an idle loader has neither
+abbrev pub LoaderInRange : Option Reloading → Type 0
+LoaderInRange None = Unit
+LoaderInRange (Some l) = ReloadingInRange l
+
 pub record CommonInRange (cm : Common) : Type 0 where
   pub control : cm.control < 2 ^ used_bits Control
   pub key : cm.key < 2 ^ used_bits Key
   pub enable : cm.enable < 2 ^ used_bits Enable
   pub reload : cm.reload < 2 ^ used_bits Reload
   pub queue : QueueInRange cm.queue
-  pub request : RequestInRange cm.loader.request
-  pub next : cm.loader.next < 128
+  pub loader : LoaderInRange cm.loader
   pub phases : (k : ℕ) → get_or cm.phases k 0 < phase_limit
 
 pub record EventsInRange (e : Events) : Type 0 where

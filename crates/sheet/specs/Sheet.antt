@@ -1,11 +1,11 @@
 -- Document 01, "The one-counter sheet": what it holds, how it steps by c's own part, what it shows.
 -- It has twelve gates, of which those that are not own stand at their power-up value: nothing is fed to them.
-use Rattle.std.specs.Prelude.{ℕ, ◌*◌, ◌/◌, ◌%◌, ◌&&◌, List, [], ◌∷◌, eqb, get_or, set}
+use Rattle.std.specs.Prelude.{ℕ, ◌*◌, ◌/◌, ◌%◌, ◌&&◌, Option, Some, None, List, [], ◌∷◌, eqb, get_or, set}
 use Rattle.bools.specs.Pick.{pick}
 use Rattle.lists.specs.Table.{tabulate}
 use Rattle.counters.specs.declared.counter.Counter.{Counter}
 use Rattle.gates.specs.declared.gate.Gate.{Gate}
-use Rattle.loader.specs.declared.loader.Loader.{Loader}
+use Rattle.loader.specs.declared.loader.Reload.{Reload}
 use Rattle.counters.specs.Counter.{cleared, counter0, counter_tick, is_over, is_under, reset_on, with_input}
 use Rattle.gates.specs.Gate.{each_gate, gate0, gate_at, gate_step, outputs_of}
 use Rattle.gates.specs.Gate.{with_mode, with_prepare, with_prepare_pulse, with_recover, with_recover_pulse, with_timeout}
@@ -59,8 +59,9 @@ abbrev pub put_gates : Sheet → List Gate → Sheet
 put_gates s x = sheet_of s.counter s.group s.memory s.common s.levels x
 
 -- the loader at counter c: "A counter whose group equals the request's takes its four words", here from the sheet's own
-unfoldable pub sheet_load : ℕ → Loader → ℕ → List ℕ → Counter → Counter
-sheet_load c l group memory x = pick (eqb c l.next && takes l group) (loaded memory (4 * l.request.dataset) x) x
+unfoldable pub sheet_load : ℕ → Option Reload → ℕ → List ℕ → Counter → Counter
+sheet_load c None group memory x = x
+sheet_load c (Some l) group memory x = pick (eqb c l.next && takes l group) (loaded memory (4 * l.request.dataset) x) x
 
 -- test phases, input rises, gates, the counter, the loader; then pulses are dropped and levels kept
 unfoldable pub sheet_tick : ℕ → Sheet → ℕ → ℕ → Sheet
