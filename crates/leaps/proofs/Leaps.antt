@@ -6,13 +6,14 @@ use mathlib.Core.List.{List}
 use mathlib.Core.Path.{◌≡◌, refl, sym, ap, ◌∙◌}
 use borrow.Author.Tests.{eqb-true, not-false, not-true}
 use lib.Dec.{eqb}
+use Rattle.std.specs.Prelude.{Option, None, Some}
 use Rattle.bools.specs.Pick.{pick}
 use Rattle.bools.proofs.Tests.{cases, pick_elim}
-use Rattle.std.proofs.lemmas.Bool.{and_parts, or_parts}
+use Rattle.std.proofs.lemmas.Bool.{and_parts, or_parts, true≢false}
 use Rattle.counters.specs.declared.counter.Counter.{Counter}
 use Rattle.gates.specs.declared.gate.Gate.{Gate}
-use Rattle.loader.specs.declared.loader.Loader.{Loader}
 use Rattle.loader.specs.declared.loader.Queue.{Queue}
+use Rattle.loader.specs.declared.loader.Reload.{Reload}
 use Rattle.watchdogs.specs.declared.watchdog.Watchdog.{Watchdog}
 use Rattle.counters.specs.Counter.{tick_counters}
 use Rattle.counters.proofs.Leaps.{counters_more, counters_none, counters_ranged}
@@ -22,7 +23,7 @@ use Rattle.gate_leaps.proofs.Leaps.{Steady, gates_more, gates_none, horizon_le, 
 use Rattle.lines.specs.Leap.{low_phases}
 use Rattle.lines.specs.Lines.{rises_of, step_phases}
 use Rattle.lines.proofs.Leaps.{Low, low_is, low_kept, no_input, phases_more, phases_none, raw_stays, rises_next, rises_none}
-use Rattle.loader.specs.Loader.{is_empty, load_into, loader_step, queue_step}
+use Rattle.loader.specs.Loader.{busy, is_empty, load_into, loader_step, queue_step}
 use Rattle.watchdogs.specs.Watchdog.{step_watchdogs}
 use Rattle.watchdogs.proofs.Leaps.{watchdogs_more, watchdogs_none}
 use Rattle.device.specs.declared.state.Crate.{Crate}
@@ -35,29 +36,33 @@ use Rattle.leaps.specs.Leap.{Formed, leap_common, leap_of, leap_rest, quiet, str
 
 pub record Quiet (k : ℕ) (s : Crate) (inputs gatelevels : ℕ) : Type 0 where
   pub levels : s.levels ≡ inputs
-  pub idle : s.common.loader.busy ≡ false
+  pub idle : s.common.loader ≡ None
   pub empty : is_empty s.common.queue ≡ true
   pub phases : Low s.common.phases
   pub gates : Steady k gatelevels s.gates
 
+none_of : (l : Option Reload) → busy l ≡ false → l ≡ None
+none_of None e = refl
+none_of (Some l) e = absurd (true≢false e)
+
 pub quiet_is : (k : ℕ) (s : Crate) (inputs gatelevels : ℕ) → quiet k s inputs gatelevels ≡ true → Quiet k s inputs gatelevels
 unfolding quiet
 quiet_is k s inputs gatelevels e =
-    let waits = s.common.loader.busy || not (is_empty s.common.queue) in
+    let waits = busy s.common.loader || not (is_empty s.common.queue) in
     let a = (and_parts (eqb s.levels inputs && not waits) _ e).0 in
     let b = (and_parts (eqb s.levels inputs && not waits) _ e).1 in
     let c = not-true waits (and_parts (eqb s.levels inputs) (not waits) a).1 in
     record {
       levels = eqb-true s.levels inputs (and_parts (eqb s.levels inputs) _ a).0;
-      idle = (or_parts s.common.loader.busy (not (is_empty s.common.queue)) c).0;
-      empty = not-false (is_empty s.common.queue) (or_parts s.common.loader.busy (not (is_empty s.common.queue)) c).1;
+      idle = none_of s.common.loader (or_parts (busy s.common.loader) (not (is_empty s.common.queue)) c).0;
+      empty = not-false (is_empty s.common.queue) (or_parts (busy s.common.loader) (not (is_empty s.common.queue)) c).1;
       phases = low_is s.common.phases (and_parts (low_phases s.common.phases) _ b).0;
       gates = steady_is k gatelevels s.gates (and_parts (low_phases s.common.phases) _ b).1;
     }
 
 -- ---- an idle loader
 
-module _ (l : Loader) (q : Queue) (idle : l.busy ≡ false) (empty : is_empty q ≡ true) where
+module _ (l : Option Reload) (q : Queue) (idle : l ≡ None) (empty : is_empty q ≡ true) where
   loader_stays : loader_step l q ≡ l
   unfolding loader_step
   loader_stays = rw (idle, empty)
@@ -70,7 +75,7 @@ module _ (l : Loader) (q : Queue) (idle : l.busy ≡ false) (empty : is_empty q 
   unfolding load_into
   load_none groups memory xs = rw idle
 
-handled_stays : (l : Loader) (e : Events) → l.busy ≡ false → handled_by l e ≡ e
+handled_stays : (l : Option Reload) (e : Events) → l ≡ None → handled_by l e ≡ e
 handled_stays l e idle = rw idle
 
 -- ---- the crate
@@ -179,12 +184,6 @@ quiet_leap (suc k) s memory inputs gatelevels q f =
     ∙ more (suc k) s memory inputs gatelevels q f (suc k)
 
 -- ---- the stretch that is made at once
-
--- by what the timers allow, as the code has it
-pub stretch_by : (s : Crate) (left inputs gatelevels k : ℕ) → k ≡ horizon 12 s.gates (min left 4294967295) →
-    stretch_of s left inputs gatelevels ≡ pick (quiet k s inputs gatelevels) k 0
-unfolding stretch_of
-stretch_by s left inputs gatelevels k e = ap (λ (n : ℕ). pick (quiet n s inputs gatelevels) n 0) (sym e)
 
 pub stretch_le : (s : Crate) (left inputs gatelevels : ℕ) → stretch_of s left inputs gatelevels ≤ left
 unfolding stretch_of

@@ -55,6 +55,7 @@ fn capped(n: u64) -> u32
 }
 
 // How many of the ticks left can be made at once: as many as the timers allow, if these are quiet, else none.
+#[tactic(auto, unfolding(crate::specs::Leap::stretch_of))]
 pub fn stretch(s: &Crate, left: u64, levels: Levels) -> u32
     ensures { result ≡ stretch_of s.now left levels.inputs levels.gates }
 {
