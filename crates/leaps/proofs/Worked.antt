@@ -7,6 +7,7 @@ use lib.Dec.{lit<}
 use lib.IntN.{ℤ, pos, negsuc}
 use lib.ListN.{get_or, length}
 use Prim.{tt}
+use Rattle.std.specs.Result.{result_unwrap_or}
 use Rattle.numbers.specs.Signed.{word_of}
 use Rattle.words.specs.Word.{bit_of}
 use Rattle.lists.specs.Checks.{Row, right, row}
@@ -143,7 +144,7 @@ abbrev stretches : List Call → ℕ → ℕ → ℕ → ℕ
 stretches l left inputs gatelevels = stretch_of (after l).state left inputs gatelevels
 
 abbrev leapt : List Call → ℕ → ℕ → ℕ → ℕ
-leapt l k gatelevels a = (read_of (machine (leap_of k (after l).state gatelevels) memory0) a).word
+leapt l k gatelevels a = result_unwrap_or (read_of (machine (leap_of k (after l).state gatelevels) memory0) a) 0
 
 unfoldable pub crate_rows : List Row
 crate_rows =
