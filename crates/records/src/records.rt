@@ -32,7 +32,7 @@ pub fn next_at(t: &[u8], at: usize) -> usize
     ensures { result ≡ next_at t.now at }
 {
     let size = word_at(t, at + 1);
-    at + 3 + (size as usize)
+    at + 3 + usize::from(size)
 }
 
 // The levels of a tick record: the inputs, the gates.
@@ -109,7 +109,8 @@ pub fn record_at(t: &[u8], at: usize) -> Result<Record, Stop>
         return Err(Stop::WrongLength);
     }
     if left < 3 + usize::from(size) {
-        return Err(Stop::Cut);
+        Err(Stop::Cut)
+    } else {
+        payload_at(tag, t, at + 3)
     }
-    payload_at(tag, t, at + 3)
 }

@@ -7,16 +7,17 @@ use mathlib.Core.List.{List}
 use mathlib.Core.Path.{◌≡◌, refl, sym, ap, subst, ◌∙◌}
 use lib.Dec.{ltb}
 use lib.ListN.{length}
+use Rattle.std.proofs.Common.{Ok, Err}
 use Rattle.bools.proofs.Tests.{cases, pick_elim}
 use Rattle.loader.specs.Memory.{is_whole}
 use Rattle.registers.specs.Calls.{Call, tick, write, tag}
 use Rattle.device.specs.State.{Machine}
+use Rattle.lines.specs.declared.levels.Levels.{Levels}
 use Rattle.lines.specs.Lines.{bad_levels}
-use Rattle.records.specs.declared.Record.{Record}
-use Rattle.records.specs.declared.Record.TheVariants.{AtEnd, Malformed, Ticks, Write, Tag}
+use Rattle.records.specs.declared.Record.TheVariants.{Ticks, Write, Tag}
 use Rattle.records.specs.declared.Stop.{Stop}
-use Rattle.records.specs.declared.Stop.TheVariants.{End, Spent}
-use Rattle.records.specs.Records.{next_at, record_at}
+use Rattle.records.specs.declared.Stop.TheVariants.{End, Spent, Memory}
+use Rattle.records.specs.Records.{Found, next_at, record_at}
 use Rattle.trace.specs.Run.{Run, begun, by_record, call_in, once_of, one, passes, repeated, report_of, run_from, run_of, stops_by, ticks_in}
 use Rattle.trace.specs.Sound.{Sound}
 use Rattle.trace.proofs.Listed.{halted_stays, run_on_lem}
@@ -44,13 +45,12 @@ module _ (t : List ℕ) (budget : ℕ) where
       (λ e. pick_elim (Further t r) (ltb (budget - r.progress.report.ticks) n) (λ e. stop_further r Spent)
       (λ e. pass_further r h (repeated n (tick inputs gates)) n false))
 
-  record_further : (r : Run) (x : Record) → Within t (place r) x → Further t r (by_record t budget x r)
+  record_further : (r : Run) (x : Found) → Within t (place r) x → Further t r (by_record t budget x r)
   unfolding by_record call_in
-  record_further r AtEnd w = stop_further r End
-  record_further r (Malformed stop) w = stop_further r stop
-  record_further r (Ticks n inputs gates) w = ticks_further r w n inputs gates
-  record_further r (Write a v) w = pass_further r w (one (write a v)) 0 _
-  record_further r (Tag e) w = pass_further r w (one (tag e)) 0 _
+  record_further r (Err stop) w = stop_further r stop
+  record_further r (Ok (Ticks n levels)) w = ticks_further r w n levels.inputs levels.gates
+  record_further r (Ok (Write a v)) w = pass_further r w (one (write a v)) 0 _
+  record_further r (Ok (Tag e)) w = pass_further r w (one (tag e)) 0 _
 
   once_further : (r : Run) → Further t r (once_of t budget r)
   unfolding once_of
@@ -70,6 +70,40 @@ module _ (t : List ℕ) (budget : ℕ) where
       ∙ cases (once_of t budget r).progress.going
       (λ g. halts_from fuel (once_of t budget r) g (omega (arith, ((once_further r).further g).0, ((once_further r).further g).1)))
       (λ g. ap (λ (q : Run). q.progress.going) (halted_stays t budget fuel (once_of t budget r) g) ∙ g)
+
+  -- turns past the bytes left make nothing more of a run
+  enough : (fuel more : ℕ) (r : Run) → r.progress.going ≡ true → length t - place r < fuel → length t - place r < more →
+      run_from fuel t budget r ≡ run_from more t budget r
+  enough zero more r e h l = absurd (not-suc-le-zero h)
+  enough (suc fuel) zero r e h l = absurd (not-suc-le-zero l)
+  enough (suc fuel) (suc more) r e h l =
+      sym (turn fuel r e)
+      ∙ cases (once_of t budget r).progress.going
+      (λ g.
+      let f = (once_further r).further g in
+      enough fuel more (once_of t budget r) g (omega (arith, f.0, f.1)) (omega (arith, f.0, f.1)))
+      (λ g. halted_stays t budget fuel (once_of t budget r) g ∙ sym (halted_stays t budget more (once_of t budget r) g))
+      ∙ turn more r e
+
+  -- the turns that a run can still have: one for each byte left, and one more
+  abbrev pub ended : Run → Run
+  ended r = run_from (length t + 1 - place r) t budget r
+
+  -- a record makes no other end of a run: of one that goes on, and then further on in the trace; and of one that stops
+  pub goes_on : (r : Run) → r.progress.going ≡ true → place r ≤ length t → (once_of t budget r).progress.going ≡ true →
+      (ended (once_of t budget r) ≡ ended r) × (length t - place (once_of t budget r) < length t - place r)
+  goes_on r e h g =
+      let f = (once_further r).further g in
+      let s : length t + 1 - place r ≡ suc (length t - place r) = omega arith in (
+        enough (length t + 1 - place (once_of t budget r)) (length t - place r) (once_of t budget r) g (omega (arith, f.1)) (omega (arith, f.0, f.1))
+        ∙ rw s (turn (length t - place r) r e),
+        omega (arith, f.0, f.1),
+      )
+
+  pub stops_here : (r : Run) → r.progress.going ≡ true → place r ≤ length t → (once_of t budget r).progress.going ≡ false → once_of t budget r ≡ ended r
+  stops_here r e h g =
+      let s : length t + 1 - place r ≡ suc (length t - place r) = omega arith in
+      sym (halted_stays t budget (length t - place r) (once_of t budget r) g) ∙ rw s (turn (length t - place r) r e)
 
   pub run_halts : (m : Machine) → (run_of t budget m).progress.going ≡ false
   unfolding run_of
@@ -100,10 +134,10 @@ module _ (t : List ℕ) (budget : ℕ) where
   -- ---- a run stops where the next record stops it
 
   -- where record x stops the run r, it stops what is left again, by the same cause
-  record Again (x : Record) (r q : Run) : Type 0 where
+  record Again (x : Found) (r q : Run) : Type 0 where
     again : q.progress.going ≡ false → (place q ≡ place r) × (by_record t budget x q ≡ q)
 
-  pass_again : (x : Record) (r : Run) (calls : List Call) (ticks : ℕ) (b : Bool) → Again x r (passes t r calls ticks b)
+  pass_again : (x : Found) (r : Run) (calls : List Call) (ticks : ℕ) (b : Bool) → Again x r (passes t r calls ticks b)
   unfolding passes
   pass_again x r calls ticks b = record { again = λ e. absurd (true≢false e) }
 
@@ -112,23 +146,23 @@ module _ (t : List ℕ) (budget : ℕ) where
   unfolding ticks_in
   spent_again r n inputs gates good long = rw (good, long)
 
-  ticks_again : (r : Run) (n inputs gates : ℕ) → Again (Ticks n inputs gates) r (ticks_in t budget r n inputs gates)
+  ticks_again : (r : Run) (n : ℕ) (levels : Levels) → Again (Ok (Ticks n levels)) r (ticks_in t budget r n levels.inputs levels.gates)
   unfolding ticks_in by_record
-  ticks_again r n inputs gates =
-      pick_elim (Again (Ticks n inputs gates) r) (bad_levels inputs gates)
-      (λ e. pass_again (Ticks n inputs gates) r (one (tick inputs gates)) 0 true)
+  ticks_again r n levels =
+      let x : Found = Ok (Ticks n levels) in
+      pick_elim (Again x r) (bad_levels levels.inputs levels.gates)
+      (λ e. pass_again x r (one (tick levels.inputs levels.gates)) 0 true)
       (λ good.
-      pick_elim (Again (Ticks n inputs gates) r) (ltb (budget - r.progress.report.ticks) n)
-      (λ long. record { again = λ e. (refl, spent_again r n inputs gates good long) })
-      (λ e. pass_again (Ticks n inputs gates) r (repeated n (tick inputs gates)) n false))
+      pick_elim (Again x r) (ltb (budget - r.progress.report.ticks) n)
+      (λ long. record { again = λ e. (refl, spent_again r n levels.inputs levels.gates good long) })
+      (λ e. pass_again x r (repeated n (tick levels.inputs levels.gates)) n false))
 
-  record_again : (x : Record) (r : Run) → Again x r (by_record t budget x r)
+  record_again : (x : Found) (r : Run) → Again x r (by_record t budget x r)
   unfolding by_record call_in
-  record_again AtEnd r = record { again = λ e. (refl, refl) }
-  record_again (Malformed stop) r = record { again = λ e. (refl, refl) }
-  record_again (Ticks n inputs gates) r = ticks_again r n inputs gates
-  record_again (Write a v) r = pass_again (Write a v) r (one (write a v)) 0 _
-  record_again (Tag e) r = pass_again (Tag e) r (one (tag e)) 0 _
+  record_again (Err stop) r = record { again = λ e. (refl, refl) }
+  record_again (Ok (Ticks n levels)) r = ticks_again r n levels
+  record_again (Ok (Write a v)) r = pass_again (Ok (Write a v)) r (one (write a v)) 0 _
+  record_again (Ok (Tag e)) r = pass_again (Ok (Tag e)) r (one (tag e)) 0 _
 
   once_again : (r : Run) → (once_of t budget r).progress.going ≡ false → once_of t budget (once_of t budget r) ≡ once_of t budget r
   unfolding once_of

@@ -9,19 +9,20 @@ use mathlib.Core.Path.{◌≡◌, refl, sym, ap, ◌∙◌}
 use borrow.Author.Tests.{eqb-true}
 use lib.Dec.{ltb}
 use lib.ListN.{length}
+use Rattle.std.proofs.Common.{Ok, Err}
 use Rattle.bools.specs.Pick.{pick}
 use Rattle.bools.proofs.Tests.{cases}
 use Rattle.loader.specs.Memory.{is_whole}
 use Rattle.registers.specs.Calls.{Call, tick, write, tag, accepted_ticks, answer, call_answer, from, is_refused, refusals}
 use Rattle.device.specs.State.{Machine}
+use Rattle.lines.specs.declared.levels.Levels.{Levels}
 use Rattle.lines.specs.Lines.{bad_levels}
 use Rattle.registers.proofs.Lists.{from_append, full_from, refusals_append, refusals_repeated, ticks_append, ticks_repeated}
-use Rattle.records.specs.declared.Record.{Record}
-use Rattle.records.specs.declared.Record.TheVariants.{AtEnd, Malformed, Ticks, Write, Tag}
+use Rattle.records.specs.declared.Record.TheVariants.{Ticks, Write, Tag}
 use Rattle.records.specs.declared.Stop.{Stop}
 use Rattle.records.specs.declared.Stop.TheVariants.{End, Spent, Memory}
 use Rattle.trace.specs.Passed.{calls_in, calls_of, passed_from, passed_in}
-use Rattle.records.specs.Records.{record_at}
+use Rattle.records.specs.Records.{Found, record_at}
 use Rattle.trace.specs.Run.{Run, begun, by_record, call_in, machine_of, once_of, passes, repeated, run_from, run_of, stops_by, ticks_in}
 
 -- what `n` records with these calls make of a run
@@ -75,9 +76,11 @@ module _ (t : List ℕ) (budget : ℕ) where
   unfolding answer call_answer
   tick_refused inputs gates m bad = cases (is_whole m.memory) (λ e. rw (e, bad)) (λ e. rw e)
 
-  ticks_turn : (r : Run) → Whole r → (n inputs gates : ℕ) → Turn r (ticks_in t budget r n inputs gates) (calls_of (Ticks n inputs gates))
+  ticks_turn : (r : Run) → Whole r → (n : ℕ) (levels : Levels) → Turn r (ticks_in t budget r n levels.inputs levels.gates) (calls_of (Ok (Ticks n levels)))
   unfolding ticks_in calls_of passes repeated
-  ticks_turn r h n inputs gates =
+  ticks_turn r h n levels =
+      let inputs = levels.inputs in
+      let gates = levels.gates in
       cases (bad_levels inputs gates)
       (λ bad.
       rw bad
@@ -100,13 +103,12 @@ module _ (t : List ℕ) (budget : ℕ) where
         refused = rw (refusals_repeated inputs gates good n (machine_of r) h);
       })))))
 
-  record_turn : (r : Run) → Whole r → (x : Record) → Turn r (by_record t budget x r) (calls_of x)
+  record_turn : (r : Run) → Whole r → (x : Found) → Turn r (by_record t budget x r) (calls_of x)
   unfolding by_record calls_of
-  record_turn r h AtEnd = stop_turn r _ End
-  record_turn r h (Malformed stop) = stop_turn r _ stop
-  record_turn r h (Ticks n inputs gates) = ticks_turn r h n inputs gates
-  record_turn r h (Write a w) = call_turn r (write a w) (unfold accepted_ticks in refl)
-  record_turn r h (Tag e) = call_turn r (tag e) (unfold accepted_ticks in refl)
+  record_turn r h (Err stop) = stop_turn r _ stop
+  record_turn r h (Ok (Ticks n levels)) = ticks_turn r h n levels
+  record_turn r h (Ok (Write a w)) = call_turn r (write a w) (unfold accepted_ticks in refl)
+  record_turn r h (Ok (Tag e)) = call_turn r (tag e) (unfold accepted_ticks in refl)
 
   whole_after : (r q : Run) {n : ℕ} {calls : List Call} → Whole r → Passes r q n calls → Whole q
   whole_after r q {n} {calls} h p = ap (λ (m : Machine). length m.memory) p.state ∙ full_from (machine_of r) h calls
@@ -129,19 +131,19 @@ module _ (t : List ℕ) (budget : ℕ) where
   halted_stays (suc fuel) q e = run_by fuel q e
 
   -- the records passed after one that leads to q
-  abbrev behind : ℕ → Record → Run → List Record
-  behind fuel x q = pick {A = Run → List Record} q.progress.going (λ (q : Run). x ∷ passed_from fuel t budget q) (λ (q : Run). []) q
+  abbrev behind : ℕ → Found → Run → List Found
+  behind fuel x q = pick {A = Run → List Found} q.progress.going (λ (q : Run). x ∷ passed_from fuel t budget q) (λ (q : Run). []) q
 
-  behind_by : (fuel : ℕ) (x : Record) (q : Run) {b : Bool} → q.progress.going ≡ b →
-      behind fuel x q ≡ pick {A = Run → List Record} b (λ (q : Run). x ∷ passed_from fuel t budget q) (λ (q : Run). []) q
+  behind_by : (fuel : ℕ) (x : Found) (q : Run) {b : Bool} → q.progress.going ≡ b →
+      behind fuel x q ≡ pick {A = Run → List Found} b (λ (q : Run). x ∷ passed_from fuel t budget q) (λ (q : Run). []) q
   behind_by fuel x q e =
-      ap (λ (b : Bool). pick {A = Run → List Record} b (λ (q : Run). x ∷ passed_from fuel t budget q) (λ (q : Run). []) q) e
+      ap (λ (b : Bool). pick {A = Run → List Found} b (λ (q : Run). x ∷ passed_from fuel t budget q) (λ (q : Run). []) q) e
 
   abbrev Along : ℕ → Run → Type 0
   Along fuel r = Passes r (run_from fuel t budget r) (length (passed_from fuel t budget r)) (calls_in (passed_from fuel t budget r))
 
   turned : (fuel : ℕ) → ((q : Run) → Whole q → q.progress.going ≡ true → Along fuel q) →
-      (r : Run) → Whole r → (x : Record) (q : Run) → Turn r q (calls_of x) →
+      (r : Run) → Whole r → (x : Found) (q : Run) → Turn r q (calls_of x) →
       Passes r (run_from fuel t budget q) (length (behind fuel x q)) (calls_in (behind fuel x q))
   unfolding calls_in
   turned fuel more r h x q (going f p) = rw (behind_by fuel x q f) (counted (passes_both p (more q (whole_after r q h p) f)))

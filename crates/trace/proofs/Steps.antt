@@ -10,17 +10,16 @@ use borrow.Author.Tests.{eq-eqb, eqb-false, ltb-false}
 use lib.Dec.{eqb, ltb, lit≤}
 use lib.ListN.{length}
 use Rattle.words.specs.Word.{bit_of}
+use Rattle.std.proofs.Common.{Ok, Err}
 use Rattle.bools.proofs.Tests.{cases, pick_elim}
 use Rattle.lists.specs.Table.{table_from, tabulate}
 use Rattle.loader.specs.Memory.{is_whole}
-use Rattle.device.specs.declared.answer.Outcome.{Outcome}
-use Rattle.registers.specs.Calls.{Call, tick, write, tag, called, from, outcome_of, step}
+use Rattle.registers.specs.Calls.{Call, tick, write, tag, called, from, step}
 use Rattle.device.specs.State.{Machine, machine}
 use Rattle.lines.specs.Lines.{bad_levels}
-use Rattle.records.specs.declared.Record.{Record}
-use Rattle.records.specs.declared.Record.TheVariants.{AtEnd, Malformed, Ticks, Write, Tag}
+use Rattle.records.specs.declared.Record.TheVariants.{Ticks, Write, Tag}
 use Rattle.trace.specs.declared.Report.{Report}
-use Rattle.records.specs.Records.{header_bytes, is_known, length_at, next_at, number_at, payload_at, payload_bytes, record_at, repeat_bytes, tag_at, ticks_at}
+use Rattle.records.specs.Records.{Found, header_bytes, is_known, length_at, next_at, number_at, payload_at, payload_bytes, record_at, repeat_bytes, tag_at, ticks_at}
 use Rattle.records.specs.declared.Stop.{Stop}
 use Rattle.records.specs.declared.Stop.TheVariants.{End, Spent}
 use Rattle.trace.specs.Run.{Run, begun, by_record, call_in, once_of, one, passed, passes, repeated, run_from, run_of, stopped, stops_by, ticks_in}
@@ -53,22 +52,15 @@ pub tick_refused : (inputs gates : ℕ) (m : Machine) → bad_levels inputs gate
 unfolding step called
 tick_refused inputs gates m bad = cases (is_whole m.memory) (λ e. rw (e, bad)) (λ e. rw e)
 
--- what a call's contract says, as a step of the machine
-pub called_out : (m : Machine) (x : Call) {o : Outcome} {w : List ℕ} → o ≡ outcome_of m x → w ≡ (step m x).memory → machine o.state w ≡ step m x
-called_out m x e h = rw (e, h)
-
 -- ---- records that stand whole
 
 -- a record that a run may pass ends within the trace
-abbrev pub Within : List ℕ → ℕ → Record → Type 0
-Within t at AtEnd = Unit {0}
-Within t at (Malformed stop) = Unit {0}
-Within t at (Ticks n inputs gates) = next_at t at ≤ length t
-Within t at (Write a w) = next_at t at ≤ length t
-Within t at (Tag e) = next_at t at ≤ length t
+abbrev pub Within : List ℕ → ℕ → Found → Type 0
+Within t at (Err stop) = Unit {0}
+Within t at (Ok x) = next_at t at ≤ length t
 
 -- a record of its own, so that the arguments of `pick_elim` are found
-pub record Whole (t : List ℕ) (at : ℕ) (x : Record) : Type 0 where
+pub record Whole (t : List ℕ) (at : ℕ) (x : Found) : Type 0 where
   pub fits : Within t at x
 
 module _ (t : List ℕ) (at : ℕ) where
@@ -99,7 +91,7 @@ module _ (t : List ℕ) (at : ℕ) where
       (λ e. record { fits = tt }))
       (λ e. record { fits = tt })))
 
-  pub whole_at : {x y : Record} → y ≡ record_at t at → y ≡ x → Within t at x
+  pub whole_at : {x y : Found} → y ≡ record_at t at → y ≡ x → Within t at x
   whole_at e h = subst (Within t at) (sym e ∙ h) record_whole.fits
 
 -- at a record that stands whole the numbers of a run have room
@@ -147,13 +139,12 @@ module _ (t : List ℕ) (budget : ℕ) (r : Run) (s : Sound t budget r.progress.
       (λ e. pick_elim (Kept t budget) (ltb (budget - report.ticks) n) (λ e. stop_kept Spent)
       (λ e. pass_kept h (repeated n (tick inputs gates)) n false (omega (arith, s.spent, ltb-false (budget - report.ticks) n e))))
 
-  record_kept : (x : Record) → Within t report.next x → Kept t budget (by_record t budget x r)
+  record_kept : (x : Found) → Within t report.next x → Kept t budget (by_record t budget x r)
   unfolding by_record call_in
-  record_kept AtEnd w = stop_kept End
-  record_kept (Malformed stop) w = stop_kept stop
-  record_kept (Ticks n inputs gates) w = ticks_kept w n inputs gates
-  record_kept (Write a v) w = pass_kept w (one (write a v)) 0 _ (omega (arith, s.spent))
-  record_kept (Tag e) w = pass_kept w (one (tag e)) 0 _ (omega (arith, s.spent))
+  record_kept (Err stop) w = stop_kept stop
+  record_kept (Ok (Ticks n levels)) w = ticks_kept w n levels.inputs levels.gates
+  record_kept (Ok (Write a v)) w = pass_kept w (one (write a v)) 0 _ (omega (arith, s.spent))
+  record_kept (Ok (Tag e)) w = pass_kept w (one (tag e)) 0 _ (omega (arith, s.spent))
 
   pub once_sound : Sound t budget (once_of t budget r).progress.report
   unfolding once_of

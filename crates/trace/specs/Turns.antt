@@ -1,5 +1,5 @@
 -- A run on its way as the code holds it, before a record and after it.
-use Rattle.std.specs.Prelude.{true, false, ◌≡◌, Unit, Result, Ok, Err}
+use Rattle.std.specs.Prelude.{true, false, ◌≡◌, Result, Ok, Err}
 use Rattle.device.specs.declared.state.Crate.{Crate}
 use Rattle.records.specs.declared.Stop.{Stop}
 use Rattle.records.specs.declared.Stop.TheVariants.{End}

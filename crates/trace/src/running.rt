@@ -1,5 +1,6 @@
 // The run of a trace: record by record, with a budget of ticks.
-ghost use Rattle.std.specs.Prelude.{true, ◌≡◌, ◌+◌, ◌-◌, ◌^◌, ◌<◌, ◌≤◌};
+ghost use Rattle.std.specs.Prelude.{true, false, ◌≡◌, ◌+◌, ◌-◌, ◌^◌, ◌<◌, ◌≤◌};
+ghost use Rattle.records.specs.declared.Stop.TheVariants.{End};
 ghost use Rattle.registers.specs.Calls.{from};
 ghost use Rattle.registers.specs.Calls.{tick as call_tick};
 ghost use Rattle.device.specs.State.{machine};
@@ -56,6 +57,7 @@ fn tick_on(state: &mut Crate, mem: &[u16], n: u64, levels: Levels)
 }
 
 // A run on its way: the trace, the budget of ticks, and the numbers of its report so far.
+#[derive(Drop)]
 struct Running<'a> {
     trace: &'a [u8],
     budget: u64,

@@ -1,13 +1,23 @@
-use Prim.Native.Nat.{◌+◌, ◌-◌}
+use Prim.Native.Nat.{◌-◌}
+use mathlib.Core.Bool.{true}
 use mathlib.Core.Path.{◌≡◌}
 use lib.ListN.{length}
-use Rattle.trace.specs.Run.{run, run_from}
+use Rattle.device.specs.State.{machine}
+use Rattle.trace.specs.Run.{progress_of, run, run_of}
 use Rattle.trace.specs.Sound.{Sound}
+use Rattle.trace.specs.Turns.{so_far}
+use Rattle.trace.proofs.Halts.{ended}
 use Rattle.trace.proofs.running.run.Given as goal
 
 -- what the turns left make of the run is the same at each turn
-abbrev pub invariant-loop-turn : goal.invariant-loop-turn
-invariant-loop-turn l =
-    (length l.mem ≡ length l.initial.mem)
-    × Sound l.trace l.budget l.p.report
-    × (run_from (length l.trace + 1 - l._turn) l.trace l.budget (run l.p l.mem) ≡ run_from (length l.trace + 1) l.trace l.budget (run l.initial.p l.initial.mem))
+abbrev pub invariant-loop-stop : goal.invariant-loop-stop
+invariant-loop-stop l = record {
+  trace : l.running.trace.now ≡ l.trace;
+  budget : l.running.budget ≡ l.budget;
+  sound : Sound l.trace l.budget (so_far l.running);
+  same : ended l.trace l.budget (run (progress_of l.state (so_far l.running) true) l.mem) ≡ run_of l.trace l.budget (machine l.fn.state l.fn.mem);
+}
+
+-- each record moves the offset on
+abbrev pub decreases-loop-stop : goal.decreases-loop-stop
+decreases-loop-stop l = length l.trace - l.running.next
