@@ -109,3 +109,8 @@ with_word (Err cause) w = Err cause
 -- a read: cause 1, then 2
 unfoldable pub read_of : Machine → ℕ → Result ℕ Refusal
 read_of m a = pick (is_whole m.memory) (with_word (answer_for (decode_of a)) (word_in m (decode_of a))) (Err Memory)
+
+-- the word that is shown of a read: 0 of a refused one
+abbrev pub word_shown : Result ℕ Refusal → ℕ
+word_shown (Ok w) = w
+word_shown (Err _) = 0
