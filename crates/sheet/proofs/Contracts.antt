@@ -13,29 +13,31 @@ use Rattle.registers.proofs.download.Reads as download_reads
 use Rattle.trace.proofs.run.Reads as run_reads
 use Rattle.sheet.specs.Returned.{Looked, Powered, Ran, Returned, Scanned}
 
--- a holds the arguments in their order, s what those lent to be written are at the end; a memory that is lent to be read alone stays as it was
+-- a holds the arguments in their order, s what those lent to be written are at the end; what is lent to be read alone stays as it was
 pub power_up_contract : power_up_reads.Learnt ≡ (λ κs a r s. Powered a.0.now r s.0.now)
 power_up_contract = refl
 
-pub read_contract : read_reads.Learnt ≡ (λ κs a q s. Looked (machine a.0 a.1.0.now) a.1.1.0 q a.1.0.now)
+pub read_contract : read_reads.Learnt ≡ (λ κs a q s. Looked (machine a.0.now a.1.0.now) a.1.1.0 q)
 read_contract = refl
 
-pub scan_contract : scan_reads.Learnt ≡ (λ κs a q s. Scanned (machine a.0 a.1.0.now) q a.1.0.now)
+pub scan_contract : scan_reads.Learnt ≡ (λ κs a q s. Scanned (machine a.0.now a.1.0.now) q)
 scan_contract = refl
 
-pub write_contract : write_reads.Learnt ≡ (λ κs a r s. Returned (machine a.0 a.1.0.now) (write a.1.1.0 a.1.1.1.0) r s.1.0.now)
+pub write_contract : write_reads.Learnt ≡
+    (λ κs a r s. Returned (machine a.0.now a.1.0.now) (write a.1.1.0 a.1.1.1.0) r (machine s.0.now s.1.0.now))
 write_contract = refl
 
-pub tag_contract : tag_reads.Learnt ≡ (λ κs a r s. Returned (machine a.0 a.1.0.now) (tag a.1.1.0) r a.1.0.now)
+pub tag_contract : tag_reads.Learnt ≡ (λ κs a r s. Returned (machine a.0.now a.1.0.now) (tag a.1.1.0) r (machine s.0.now a.1.0.now))
 tag_contract = refl
 
-pub tick_contract : tick_reads.Learnt ≡ (λ κs a r s. Returned (machine a.0 a.1.0.now) (tick a.1.1.0 a.1.1.1.0) r a.1.0.now)
+pub tick_contract : tick_reads.Learnt ≡
+    (λ κs a r s. Returned (machine a.0.now a.1.0.now) (tick a.1.1.0.inputs a.1.1.0.gates) r (machine s.0.now a.1.0.now))
 tick_contract = refl
 
 pub download_contract : download_reads.Learnt ≡
-    (λ κs a r s. Returned (machine a.0 a.1.0.now) (download a.1.1.0 a.1.1.1.0.now) r s.1.0.now)
+    (λ κs a r s. Returned (machine a.0.now a.1.0.now) (download a.1.1.0 a.1.1.1.0.now) r (machine a.0.now s.1.0.now))
 download_contract = refl
 
 pub run_contract : run_reads.Learnt ≡
-    (λ κs a p s. Ran (machine a.0 a.1.0.now) a.1.1.0.now a.1.1.1.0 p s.1.0.now)
+    (λ κs a report s. Ran (machine a.0.now a.1.0.now) a.1.1.0.now a.1.1.1.0 s.0.now report s.1.0.now)
 run_contract = refl

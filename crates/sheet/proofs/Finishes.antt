@@ -14,8 +14,8 @@ use Rattle.bools.specs.Pick.{pick}
 use Rattle.bools.proofs.Tests.{both, cases}
 use Rattle.std.proofs.lemmas.Bool.{and_parts}
 use Rattle.lists.proofs.Tables.{get_d_tabulate, length_tabulate}
-use Rattle.loader.specs.declared.loader.Loader.{Loader}
 use Rattle.loader.specs.declared.loader.Queue.{Queue}
+use Rattle.loader.specs.declared.loader.Reload.{Reload as Reloading}
 use Rattle.loader.specs.declared.loader.Request.{Request}
 use Rattle.loader.specs.Loader.{dropped, is_empty, loader_step, oldest, pushed, queue_step, request0, request_for, shifted}
 use Rattle.device.specs.declared.map.Register.{Register}
@@ -32,7 +32,7 @@ use Rattle.lines.specs.Lines.{bad_levels}
 use Rattle.writing.specs.Write.{control_write, dataset_in, enable_write, group_in, key_write, on_common, reload_answer, reload_write, request_answer, requested, triggers, with_reload, write_at}
 use Rattle.registers.proofs.Lists.{full_from}
 use Rattle.registers.proofs.Whole.{full, step_called}
-use Rattle.sheet.specs.Reachable.{CommonInRange}
+use Rattle.sheet.specs.Reachable.{CommonInRange, LoaderInRange}
 use Rattle.sheet.specs.Requests.{Stand, Stands, finished, loading, made_by, past, queued, request_made, stand_after, stand_step, stand_tick, ticks_at_work, ticks_left, waits, works}
 use Rattle.sheet.proofs.Addresses.{decode_reload}
 use Rattle.sheet.proofs.InRange.{taken}
@@ -51,112 +51,56 @@ dropped_more : (q : Queue) (k : ℕ) → suc k < q.waiting → k < (dropped q).w
 unfolding dropped
 dropped_more q k h = omega arith
 
-below_last : (n : ℕ) → n < 128 → (n ≡ 127 → ⊥) → n < 127
-below_last n h g = cases (ltb n 127) (λ e. ltb-true n 127 e) (λ e. absurd (g (omega (arith, ltb-false n 127 e))))
+-- the loader is idle or works on a request, with the equation in hand
+loaders : {A : Type 0} (l : Option Reloading) → (l ≡ None → A) → ((x : Reloading) → l ≡ Some x → A) → A
+loaders None f g = f refl
+loaders (Some x) f g = g x refl
 
-busy_on : (l : Loader) (q : Queue) → l.busy ≡ true → l.next < 127 → ((loader_step l q).busy ≡ true) × ((loader_step l q).next ≡ l.next + 1) × ((loader_step l q).request ≡ l.request)
-unfolding loader_step
-busy_on l q b h = (rw (b, lt-ltb l.next 127 h), rw (b, lt-ltb l.next 127 h), rw b)
-
-busy_last : (l : Loader) (q : Queue) → l.busy ≡ true → 127 ≤ l.next → (loader_step l q).busy ≡ false
-unfolding loader_step
-busy_last l q b h = rw (b, le-ltb l.next 127 h)
-
-idle_takes : (l : Loader) (q : Queue) → l.busy ≡ false → is_empty q ≡ false →
-    ((loader_step l q).busy ≡ true) × ((loader_step l q).next ≡ 0) × ((loader_step l q).request ≡ oldest q)
-unfolding loader_step
-idle_takes l q b e = (rw (b, e), rw (b, e), rw (b, e))
-
-queue_busy : (l : Loader) (q : Queue) → l.busy ≡ true → queue_step l q ≡ q
-unfolding queue_step
-queue_busy l q b = rw b
-
-queue_idle : (l : Loader) (q : Queue) → l.busy ≡ false → is_empty q ≡ false → queue_step l q ≡ dropped q
-unfolding queue_step
-queue_idle l q b e = rw (b, e)
-
--- the stand by the loader's tests; the equation goes into the test alone, as a rewrite would go into the loader itself
-
-first_by : (l : Loader) {b : Bool} → l.busy ≡ b → stand_tick l (waits zero) ≡ pick b (waits zero) works
-first_by l e = ap (λ (b : Bool). pick b (waits zero) works) e
-
-later_by : (l : Loader) (k : ℕ) {b : Bool} → l.busy ≡ b → stand_tick l (waits (suc k)) ≡ pick b (waits (suc k)) (waits k)
-later_by l k e = ap (λ (b : Bool). pick b (waits (suc k)) (waits k)) e
-
-works_by : (l : Loader) {b : Bool} → eqb l.next 127 ≡ b → stand_tick l works ≡ pick b finished works
-works_by l e = ap (λ (b : Bool). pick b finished works) e
-
-stands_tick : (cm : Common) (r : Request) (s : Stand) → cm.queue.waiting ≤ 16 → cm.loader.next < 128 → Stands cm r s →
+stands_tick : (cm : Common) (r : Request) (s : Stand) → cm.queue.waiting ≤ 16 → LoaderInRange cm.loader → Stands cm r s →
     Stands (common_tick cm) r (stand_tick cm.loader s)
-unfolding common_tick
+unfolding common_tick loader_step queue_step
 stands_tick cm r (waits zero) w n (queued k h e) =
-    cases cm.loader.busy
-    (λ b.
-    let d = queue_busy cm.loader cm.queue b in
-    rw (first_by cm.loader b) (queued 0 (rw d h) (rw d e)))
-    (λ b.
-    let t = idle_takes cm.loader cm.queue b (waiting_some cm.queue 0 h) in
-    rw (first_by cm.loader b) (loading t.0 (t.2 ∙ (unfold oldest in e))))
+    loaders cm.loader
+    (λ b. rw (b, waiting_some cm.queue 0 h) (loading _ refl (unfold oldest in e)))
+    (λ l b. rw b (queued 0 h e))
 stands_tick cm r (waits (suc k)) w n (queued j h e) =
-    cases cm.loader.busy
-    (λ b.
-    let d = queue_busy cm.loader cm.queue b in
-    rw (later_by cm.loader k b) (queued (suc k) (rw d h) (rw d e)))
-    (λ b.
-    let d = queue_idle cm.loader cm.queue b (waiting_some cm.queue (suc k) h) in
-    rw (later_by cm.loader k b)
-    (queued k (rw d (dropped_more cm.queue k h)) (rw d (dropped_at cm.queue w k h ∙ e))))
-stands_tick cm r works w n (loading b e) =
-    cases (eqb cm.loader.next 127)
-    (λ f. rw (works_by cm.loader f) past)
-    (λ f.
-    let g = eqb-false cm.loader.next 127 f in
-    let t = busy_on cm.loader cm.queue b (below_last cm.loader.next n g) in
-    rw (works_by cm.loader f) (loading t.0 (t.2 ∙ e)))
-stands_tick cm r finished w n past = past
+    loaders cm.loader
+    (λ b. rw (b, waiting_some cm.queue (suc k) h) (queued k (dropped_more cm.queue k h) (dropped_at cm.queue w k h ∙ e)))
+    (λ l b. rw b (queued (suc k) h e))
+stands_tick cm r works w n (loading l b e) =
+    let n₁ : LoaderInRange (Some l) = rw b at n in
+    rw b
+    (cases (eqb l.next 127)
+    (λ f. rw f past)
+    (λ f. rw (f, lt-ltb l.next 127 (omega (arith, n₁.next, eqb-false l.next 127 f))) (loading _ refl e)))
+stands_tick cm r finished w n past = loaders cm.loader (λ b. rw b past) (λ l b. rw b past)
 
 -- ---- the measure falls by one with an accepted tick
 
-work_by : (l : Loader) {b : Bool} → l.busy ≡ b → ticks_at_work l ≡ pick b (128 - l.next) 0
-work_by l e = ap (λ (b : Bool). pick b (128 - l.next) 0) e
-
-work_busy : (l : Loader) (q : Queue) → l.busy ≡ true → l.next < 128 → ticks_at_work (loader_step l q) + 1 ≡ ticks_at_work l
-work_busy l q b n =
+work_busy : (l : Reloading) (q : Queue) → l.next < 128 → ticks_at_work (loader_step (Some l) q) + 1 ≡ 128 - l.next
+unfolding loader_step
+work_busy l q n =
     cases (ltb l.next 127)
-    (λ e.
-    let t = busy_on l q b (ltb-true l.next 127 e) in
-    let p = work_by (loader_step l q) t.0 in
-    let s = work_by l b in
-    omega (arith, ltb-true l.next 127 e, t.1))
-    (λ e.
-    let p = work_by (loader_step l q) (busy_last l q b (ltb-false l.next 127 e)) in
-    let s = work_by l b in
-    omega (arith, ltb-false l.next 127 e))
+    (λ e. rw e (omega (arith, ltb-true l.next 127 e)))
+    (λ e. rw e (omega (arith, ltb-false l.next 127 e)))
 
-work_taken : (l : Loader) (q : Queue) → l.busy ≡ false → is_empty q ≡ false → ticks_at_work (loader_step l q) ≡ 128
-work_taken l q b e = let t = idle_takes l q b e in work_by (loader_step l q) t.0 ∙ ap (λ (n : ℕ). 128 - n) t.1
-
-left_tick : (cm : Common) (r : Request) (s : Stand) → cm.loader.next < 128 → Stands cm r s →
+left_tick : (cm : Common) (r : Request) (s : Stand) → LoaderInRange cm.loader → Stands cm r s →
     ticks_left (loader_step cm.loader cm.queue) (stand_tick cm.loader s) ≡ ticks_left cm.loader s - 1
 left_tick cm r (waits zero) n (queued k h e) =
-    cases cm.loader.busy
-    (λ b. rw (first_by cm.loader b) (omega (arith, work_busy cm.loader cm.queue b n)))
-    (λ b.
-    rw (first_by cm.loader b)
-    (omega (arith, work_taken cm.loader cm.queue b (waiting_some cm.queue 0 h), work_by cm.loader b)))
+    loaders cm.loader
+    (λ b. rw b (unfold loader_step in (rw (waiting_some cm.queue 0 h) refl)))
+    (λ l b. let n₁ : LoaderInRange (Some l) = rw b at n in rw b (omega (arith, work_busy l cm.queue n₁.next)))
 left_tick cm r (waits (suc k)) n (queued j h e) =
-    cases cm.loader.busy
-    (λ b. rw (later_by cm.loader k b) (omega (arith, work_busy cm.loader cm.queue b n)))
-    (λ b.
-    rw (later_by cm.loader k b)
-    (omega (arith, work_taken cm.loader cm.queue b (waiting_some cm.queue (suc k) h), work_by cm.loader b)))
-left_tick cm r works n (loading b e) =
-    cases (eqb cm.loader.next 127)
-    (λ f.
-    let p = eqb-true cm.loader.next 127 f in
-    rw (works_by cm.loader f) (omega (arith, work_by cm.loader b)))
-    (λ f. rw (works_by cm.loader f) (omega (arith, work_busy cm.loader cm.queue b n)))
-left_tick cm r finished n past = refl
+    loaders cm.loader
+    (λ b. rw b (unfold loader_step in (rw (waiting_some cm.queue (suc k) h) (omega arith))))
+    (λ l b. let n₁ : LoaderInRange (Some l) = rw b at n in rw b (omega (arith, work_busy l cm.queue n₁.next)))
+left_tick cm r works n (loading l b e) =
+    let n₁ : LoaderInRange (Some l) = rw b at n in
+    rw b
+    (cases (eqb l.next 127)
+    (λ f. rw f (omega (arith, eqb-true l.next 127 f)))
+    (λ f. rw f (omega (arith, work_busy l cm.queue n₁.next))))
+left_tick cm r finished n past = loaders cm.loader (λ b. rw b refl) (λ l b. rw b refl)
 
 -- ---- other calls leave the loader, and put at most one request behind those that wait
 
@@ -176,7 +120,7 @@ place_grown q q' (more r w) k h = (omega arith, get_or-set_other q.places q.wait
 stands_still : (cm cm' : Common) → Still cm cm' → (r : Request) (s : Stand) → Stands cm r s → Stands cm' r s
 stands_still cm cm' t r (waits k) (queued j h e) =
     let g = place_grown cm.queue cm'.queue t.queue k h in queued k g.0 (g.1 ∙ e)
-stands_still cm cm' t r works (loading b e) = loading (ap (λ (l : Loader). l.busy) t.loader ∙ b) (ap (λ (l : Loader). l.request) t.loader ∙ e)
+stands_still cm cm' t r works (loading l b e) = loading l (t.loader ∙ b) e
 stands_still cm cm' t r finished past = past
 
 reload_still : (w : ℕ) (cm : Common) → Still cm (reload_write w cm)
@@ -250,7 +194,7 @@ due_apart m m' f a r s n d = record {
   full = f;
   range = a.1 d.range;
   stands = stands_still m.state.common m'.state.common a.0 r s d.stands;
-  left = ap (λ (l : Loader). ticks_left l s) a.0.loader ∙ d.left;
+  left = ap (λ (l : Option Reloading). ticks_left l s) a.0.loader ∙ d.left;
 }
 
 due_tick : (m : Machine) (inputs gates : ℕ) (r : Request) (s : Stand) (n : ℕ) → Due m r s n →
@@ -259,8 +203,8 @@ unfolding tick_of
 due_tick m inputs gates r s n d = record {
   full = d.full;
   range = common_tick_in m.state.common d.range;
-  stands = stands_tick m.state.common r s d.range.queue.waiting d.range.next d.stands;
-  left = unfold common_tick in (left_tick m.state.common r s d.range.next d.stands ∙ ap (λ (k : ℕ). k - 1) d.left);
+  stands = stands_tick m.state.common r s d.range.queue.waiting d.range.loader d.stands;
+  left = unfold common_tick in (left_tick m.state.common r s d.range.loader d.stands ∙ ap (λ (k : ℕ). k - 1) d.left);
 }
 
 -- what a call makes of the machine, where that is known to be apart
@@ -304,7 +248,7 @@ due_pushed m m' r f h h' free q l = record {
   range = h';
   stands = queued (ahead m) (rw q (unfold pushed in (omega arith)))
       (rw q (unfold pushed in (get_or-set_same m.state.common.queue.places (ahead m) r request0 (omega (arith, h.queue.places)))));
-  left = ap (λ (x : Loader). ticks_left x (waits (ahead m))) l;
+  left = ap (λ (x : Option Reloading). ticks_left x (waits (ahead m))) l;
 }
 
 made_by_lem : (cm : Common) (w : ℕ) (asks : Bool) (r : Request) → made_by cm w asks ≡ Some r →
@@ -318,8 +262,8 @@ made_by_lem cm w true r e =
     some_same a b p = cc
 
     none_some : (b : Request) → None ≡ Some b → ⊥
-    none_some b p = let z : ◌≡◌ {A = ℕ} 0 1 = cc in omega arith
-made_by_lem cm w false r e = absurd (let z : ◌≡◌ {A = ℕ} 0 1 = cc in omega arith)
+    none_some b p = cc
+made_by_lem cm w false r e = cc
 
 reload_made : (w : ℕ) (cm : Common) → triggers w cm ≡ true → is_done (request_answer cm.queue (dataset_in w)) ≡ true →
     reload_write w cm ≡ with_reload (kept Reload w) (requested w cm)
@@ -368,16 +312,16 @@ made_tag m t r f h e =
 due_made : (m : Machine) (x : Call) (r : Request) → Full m → CommonInRange m.state.common → request_made m x ≡ Some r →
     Due (step m x) r (waits (ahead m)) (work m + 129 * (ahead m + 1))
 unfolding request_made
-due_made m (tick inputs gates) r f h e = absurd (let z : ◌≡◌ {A = ℕ} 0 1 = cc in omega arith)
-due_made m (download d words) r f h e = absurd (let z : ◌≡◌ {A = ℕ} 0 1 = cc in omega arith)
+due_made m (tick inputs gates) r f h e = absurd (cc)
+due_made m (download d words) r f h e = absurd (cc)
 due_made m (write a w) r f h e = made_write m a w r f h e
 due_made m (tag t) r f h e = made_tag m t r f h e
 
 -- ---- the bound
 
-finished_at_zero : (cm : Common) (r : Request) (s : Stand) → cm.loader.next < 128 → Stands cm r s → ticks_left cm.loader s ≡ 0 → s ≡ finished
+finished_at_zero : (cm : Common) (r : Request) (s : Stand) → LoaderInRange cm.loader → Stands cm r s → ticks_left cm.loader s ≡ 0 → s ≡ finished
 finished_at_zero cm r (waits k) n st e = absurd (omega arith)
-finished_at_zero cm r works n (loading b q) e = absurd (omega (arith, work_by cm.loader b))
+finished_at_zero cm r works n (loading l b q) e = let n₁ : LoaderInRange (Some l) = rw b at n in absurd (omega (arith, n₁.next, rw b at e))
 finished_at_zero cm r finished n st e = refl
 
 range_step : (m : Machine) → Full m → (x : Call) → CommonInRange m.state.common → CommonInRange (step m x).state.common
@@ -395,8 +339,9 @@ unfolding from
 range_from m f [] h = h
 range_from m f (x ∷ l) h = range_from (step m x) (full m f x) l (range_step m f x h)
 
-work_le : (l : Loader) → ticks_at_work l ≤ 128
-work_le l = both (λ (n : ℕ). n ≤ 128) l.busy (omega arith) (omega arith)
+work_le : (l : Option Reloading) → ticks_at_work l ≤ 128
+work_le None = omega arith
+work_le (Some l) = omega arith
 
 full_start : Full machine0
 unfolding memory0
@@ -423,4 +368,4 @@ module _ (l : List Call) (x : Call) (r : Request) (made : request_made (after l)
   pub finishes : (k : List Call) → 128 + 129 * (ahead (after l) + 1) ≤ accepted_ticks k → stand_after (step (after l) x) k (waits (ahead (after l))) ≡ finished
   finishes k h =
       let d = due_after k in
-      finished_at_zero _ r _ d.range.next d.stands (d.left ∙ omega (arith, work_le (after l).state.common.loader))
+      finished_at_zero _ r _ d.range.loader d.stands (d.left ∙ omega (arith, work_le (after l).state.common.loader))

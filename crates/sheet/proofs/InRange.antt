@@ -9,6 +9,7 @@ use lib.Dec.{leb, ltb, lit<}
 use lib.IntN.{ℤ, pos, ◌+ℤ◌, ◌-ℤ◌}
 use lib.ListN.{get_or, length-set}
 use lib.Signed.{mag}
+use Rattle.std.proofs.Common.{Option, Some, None}
 use Rattle.numbers.specs.Signed.{joined}
 use Rattle.numbers.proofs.Complement.{signed_lt, wrapped_lt}
 use Rattle.bools.proofs.Tests.{both, cases, pick_elim}
@@ -16,7 +17,7 @@ use Rattle.lists.proofs.All.{all_each, all_set, all_tabulate}
 use Rattle.lists.proofs.Tables.{length_tabulate}
 use Rattle.counters.specs.declared.counter.Counter.{Counter}
 use Rattle.gates.specs.declared.gate.Gate.{Gate}
-use Rattle.loader.specs.declared.loader.Loader.{Loader}
+use Rattle.loader.specs.declared.loader.Reload.{Reload}
 use Rattle.loader.specs.declared.loader.Queue.{Queue}
 use Rattle.loader.specs.declared.loader.Request.{Request}
 use Rattle.watchdogs.specs.declared.watchdog.Watchdog.{Watchdog}
@@ -27,8 +28,9 @@ use Rattle.loader.specs.Loader.{dropped, group_at, takes, is_beyond, is_empty, i
 use Rattle.loader.specs.Memory.{loaded, word_at}
 use Rattle.watchdogs.specs.Watchdog.{watchdog_step, watchdog_top}
 use Rattle.device.specs.Answer.{is_done}
+use Rattle.ticking.specs.Tick.{last_handled}
 use Rattle.writing.specs.Write.{request_answer}
-use Rattle.sheet.specs.Reachable.{CounterInRange, GateInRange, QueueInRange, RequestInRange}
+use Rattle.sheet.specs.Reachable.{CounterInRange, GateInRange, LoaderInRange, QueueInRange, RequestInRange}
 
 -- ---- counters
 
@@ -75,15 +77,16 @@ pub counter0_in : CounterInRange counter0
 counter0_in = record { count = lit< tt; positive = lit< tt; negative = lit< tt; input = lit< tt }
 
 -- the loader's write of one counter: what holds of all counters and of one that is loaded holds of all
-pub load_all : (P : Counter → Type 0) → P counter0 → (l : Loader) (groups memory : List ℕ) (xs : List Counter) →
+pub load_all : (P : Counter → Type 0) → P counter0 → (l : Option Reload) (groups memory : List ℕ) (xs : List Counter) →
     ((a : ℕ) (c : Counter) → P c → P (loaded memory a c)) → ((n : ℕ) → P (counter_at xs n)) → (n : ℕ) → P (counter_at (load_into l groups memory xs) n)
 unfolding load_into counter_at
-load_all P p0 l groups memory xs kept p =
+load_all P p0 None groups memory xs kept p = p
+load_all P p0 (Some l) groups memory xs kept p =
     both (λ (x : List Counter). (n : ℕ) → P (get_or x n counter0)) (takes l (group_at groups l.next))
     (all_set counter0 (λ i. P) (λ i. p0) xs l.next _ (kept _ _ (p l.next)) p)
     p
 
-pub load_in : (l : Loader) (groups memory : List ℕ) (xs : List Counter) → ((a : ℕ) → word_at memory a < 2 ^ 16) →
+pub load_in : (l : Option Reload) (groups memory : List ℕ) (xs : List Counter) → ((a : ℕ) → word_at memory a < 2 ^ 16) →
     ((n : ℕ) → CounterInRange (counter_at xs n)) → (n : ℕ) → CounterInRange (counter_at (load_into l groups memory xs) n)
 load_in l groups memory xs words = load_all CounterInRange counter0_in l groups memory xs (loaded_in memory words)
 
@@ -163,19 +166,17 @@ dropped_in q h = record {
   requests = all_tabulate request0 (λ i. RequestInRange) (λ i. request0_in) 16 _ (λ i. h.requests (i + 1));
 }
 
-pub queue_in : (l : Loader) (q : Queue) → QueueInRange q → QueueInRange (queue_step l q)
+pub queue_in : (l : Option Reload) (q : Queue) → QueueInRange q → QueueInRange (queue_step l q)
 unfolding queue_step
-queue_in l q h = both QueueInRange l.busy h (both QueueInRange (is_empty q) h (dropped_in q h))
+queue_in None q h = both QueueInRange (is_empty q) h (dropped_in q h)
+queue_in (Some l) q h = h
 
-pub loader_next : (l : Loader) (q : Queue) → l.next < 128 → (loader_step l q).next < 128
-unfolding loader_step
-loader_next l q h =
-    both (λ (x : Loader). x.next < 128) l.busy
-    (pick_elim (λ (n : ℕ). n < 128) (ltb l.next 127) (λ e. omega (arith, ltb-true l.next 127 e)) (λ e. lit< tt))
-    (both (λ (x : Loader). x.next < 128) (is_empty q) h (lit< tt))
-
-pub loader_request : (l : Loader) (q : Queue) → RequestInRange l.request → QueueInRange q → RequestInRange (loader_step l q).request
+pub loader_in : (l : Option Reload) (q : Queue) → LoaderInRange l → QueueInRange q → LoaderInRange (loader_step l q)
 unfolding loader_step oldest
-loader_request l q r h =
-    both (λ (x : Loader). RequestInRange x.request) l.busy r
-    (both (λ (x : Loader). RequestInRange x.request) (is_empty q) r (h.requests 0))
+loader_in None q r h = both LoaderInRange (is_empty q) tt (record { request = h.requests 0; next = lit< tt })
+loader_in (Some l) q r h =
+    pick_elim LoaderInRange (ltb l.next 127) (λ e. record { request = r.request; next = omega (arith, ltb-true l.next 127 e) }) (λ e. tt)
+
+pub handled_in : (l : Option Reload) (n : ℕ) → LoaderInRange l → n < 128 → last_handled l n < 128
+handled_in None n r h = h
+handled_in (Some l) n r h = r.next

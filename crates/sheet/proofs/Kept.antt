@@ -14,7 +14,7 @@ use Rattle.words.proofs.Fields.{field_low}
 use Rattle.lists.proofs.Tables.{length_each, length_tabulate}
 use Rattle.counters.specs.declared.counter.Counter.{Counter}
 use Rattle.gates.specs.declared.gate.Gate.{Gate}
-use Rattle.loader.specs.declared.loader.Loader.{Loader}
+use Rattle.loader.specs.declared.loader.Reload.{Reload as Reloading}
 use Rattle.counters.specs.Counter.{clear_counters, counter0, counter_step, counter_tick, down_of, gate_of, input0, reset_on, tick_counters, up_of}
 use Rattle.loader.specs.Loader.{group_at, takes, load_into}
 use Rattle.loader.specs.Memory.{loaded}
@@ -60,9 +60,10 @@ sized_common m s x = record { counters = s.counters; groups = s.groups; gates = 
 sized_rest : (m : Machine) → Sized m → (x : Rest) → Sized (with_state m (with_rest m.state x))
 sized_rest m s x = record { counters = s.counters; groups = s.groups; gates = s.gates; memory = s.memory }
 
-length_load : (l : Loader) (groups memory : List ℕ) (xs : List Counter) → length xs ≡ 128 → length (load_into l groups memory xs) ≡ 128
+length_load : (l : Option Reloading) (groups memory : List ℕ) (xs : List Counter) → length xs ≡ 128 → length (load_into l groups memory xs) ≡ 128
 unfolding load_into
-length_load l groups memory xs p =
+length_load None groups memory xs p = p
+length_load (Some l) groups memory xs p =
     both (λ (x : List Counter). length x ≡ 128) (takes l (group_at groups l.next)) (length-set xs _ _ ∙ p) p
 
 length_ticked : (control rises was is : ℕ) (xs : List Counter) → length (tick_counters control rises was is xs) ≡ 128
@@ -250,9 +251,10 @@ lines_call S c (tag t) = refl
 lines_call S c (download d words) = refl
 
 -- the loader leaves it
-load_input : (c : ℕ) (l : Loader) (group : ℕ) (memory : List ℕ) (x : Counter) → (sheet_load c l group memory x).input ≡ x.input
+load_input : (c : ℕ) (l : Option Reloading) (group : ℕ) (memory : List ℕ) (x : Counter) → (sheet_load c l group memory x).input ≡ x.input
 unfolding sheet_load loaded
-load_input c l group memory x = cases (eqb c l.next && takes l group) (λ e. rw e refl) (λ e. rw e refl)
+load_input c None group memory x = refl
+load_input c (Some l) group memory x = both (λ (y : Counter). y.input ≡ x.input) (eqb c l.next && takes l group) refl refl
 
 -- the sheet's input register after a call: shown on the sheet, where it is one field, and carried to the machine by the square
 module _ (S : Lines) (c : ℕ) (s : Sheet) (fit : Fits S s.counter.input) where

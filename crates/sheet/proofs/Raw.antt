@@ -8,6 +8,7 @@ use mathlib.Core.Path.{◌≡◌, refl, sym, ap, ◌∙◌}
 use borrow.Author.Tests.{eq-eqb, le-ltb, lt-ltb}
 use lib.Dec.{eqb}
 use lib.ListN.{length}
+use Rattle.std.proofs.Common.{Ok}
 use Rattle.words.specs.Word.{bit, bit_of}
 use Rattle.words.proofs.Packing.{bit_pack, bit_zero}
 use Rattle.bools.proofs.Tests.{both, cases}
@@ -15,7 +16,6 @@ use Rattle.lists.proofs.Tables.{get_or_each, get_d_tabulate}
 use Rattle.lines.specs.Lines.{bad_levels, input_rise, rise_of, rises_of}
 use Rattle.lines.specs.Raw.{count_rises, raw_at, raw_step}
 use Rattle.loader.specs.Memory.{is_whole}
-use Rattle.device.specs.declared.answer.Answer.TheVariants.{Done}
 use Rattle.device.specs.declared.map.Register.{Register}
 use Rattle.device.specs.declared.map.Register.TheVariants.{Nothing, Readout, Other, Control, Mode, Timeout, Key, Enable, Reload, Prepare, Recover, Input, Group, Word}
 use Rattle.device.specs.declared.map.Setting.{Setting}
@@ -25,7 +25,7 @@ use Rattle.device.specs.declared.state.Crate.{Crate}
 use Rattle.device.specs.Answer.{is_done}
 use Rattle.registers.specs.Calls.{Call, tick, write, tag, download, after, called, download_answer, from, machine0, step}
 use Rattle.device.specs.Map.{counter_map, decode_of}
-use Rattle.reading.specs.Read.{low_first, read_by, read_of, status_word, word_in}
+use Rattle.reading.specs.Read.{low_first, read_of, status_word, word_in}
 use Rattle.device.specs.State.{Machine, power_up, with_state}
 use Rattle.tagging.specs.Tag.{command_of, commanded, events_on, noted_in, right_key, tag_of}
 use Rattle.ticking.specs.Tick.{rest_tick, tick_of}
@@ -220,11 +220,11 @@ decode_raw j h =
     )
 
 read_raw : (m : Machine) → length m.memory ≡ 16384 → (j : ℕ) → j < 108 →
-    read_of m (0x1300 + j) ≡ read_by Done (low_first j (raw_at m.state.rest.rawcounts (j / 2)))
+    read_of m (0x1300 + j) ≡ Ok (low_first j (raw_at m.state.rest.rawcounts (j / 2)))
 unfolding read_of word_in status_word
 read_raw m whole j h = rw (eq-eqb (length m.memory) 16384 whole, decode_raw j h)
 
-pub raw_reads : (j : ℕ) → j < 108 → (l : List Call) → read_of (after l) (0x1300 + j) ≡ read_by Done (low_first j (raw_count (j / 2) l))
+pub raw_reads : (j : ℕ) → j < 108 → (l : List Call) → read_of (after l) (0x1300 + j) ≡ Ok (low_first j (raw_count (j / 2) l))
 raw_reads j h l =
     read_raw (after l) (unfold after in (sized_from machine0 sized_start l).memory) j h
-    ∙ ap (λ (n : ℕ). read_by Done (low_first j n)) (raw_counts (j / 2) (omega arith) l)
+    ∙ ap (λ (n : ℕ). Ok (low_first j n)) (raw_counts (j / 2) (omega arith) l)

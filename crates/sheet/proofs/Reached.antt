@@ -45,7 +45,7 @@ use Rattle.ticking.specs.Tick.{common_tick, rest_tick, tick_of}
 use Rattle.writing.specs.Write.{control_write, dataset_in, enable_write, key_write, on_common, on_counters, on_gates, reload_answer, reload_write, request_answer, requested, reset_by, rest_write, triggers, with_reload, write_at}
 use Rattle.registers.proofs.Whole.{accepted, length_replaced}
 use Rattle.sheet.specs.Reachable.{CommonInRange, CounterInRange, GateInRange, OfWords, Reached, RequestInRange, RestInRange}
-use Rattle.sheet.proofs.InRange.{cleared_in, counter0_in, gate_in_lem, input_in, load_all, load_in, loader_next, loader_request, phases_in, pushed_in, queue_in, request0_in, taken, tick_in, watchdog_in}
+use Rattle.sheet.proofs.InRange.{cleared_in, counter0_in, gate_in_lem, input_in, handled_in, load_all, load_in, loader_in, phases_in, pushed_in, queue_in, request0_in, taken, tick_in, watchdog_in}
 
 -- the lowest n bits of a word are below 2 ^ n: no unused bit is stored
 kept_lt : (r : Register) (w : ℕ) → kept r w < 2 ^ used_bits r
@@ -133,7 +133,7 @@ all_held control rises was is xs e = all_tabulate counter0 (λ i. AtZero) (λ i.
 registers_in : (cm : Common) → CommonInRange cm → (control key enable reload : ℕ) → control < 2 ^ used_bits Control → key < 2 ^ used_bits Key →
     enable < 2 ^ used_bits Enable → reload < 2 ^ used_bits Reload → CommonInRange (with_registers cm control key enable reload)
 registers_in cm h control key enable reload p q r s =
-    record { control = p; key = q; enable = r; reload = s; queue = h.queue; request = h.request; next = h.next; phases = h.phases }
+    record { control = p; key = q; enable = r; reload = s; queue = h.queue; loader = h.loader; phases = h.phases }
 
 requested_in : (w : ℕ) (cm : Common) → CommonInRange cm → is_done (request_answer cm.queue (dataset_in w)) ≡ true → CommonInRange (requested w cm)
 unfolding requested
@@ -145,8 +145,7 @@ requested_in w cm h e =
       enable = h.enable;
       reload = h.reload;
       queue = pushed_in cm.queue h.queue _ (record { dataset = a.0; group = field_lt w 8 4 }) a.1;
-      request = h.request;
-      next = h.next;
+      loader = h.loader;
       phases = h.phases;
     }
 
@@ -182,8 +181,7 @@ common_tick_in cm h = record {
   enable = h.enable;
   reload = h.reload;
   queue = queue_in cm.loader cm.queue h.queue;
-  request = loader_request cm.loader cm.queue h.request h.queue;
-  next = loader_next cm.loader cm.queue h.next;
+  loader = loader_in cm.loader cm.queue h.loader h.queue;
   phases = phases_in cm.phases h.phases;
 }
 
@@ -411,7 +409,7 @@ rest_tick_in rest cm h k rawcounts r rises gates g = record {
     low = h.events.low;
     high = h.events.high;
     code = h.events.code;
-    handled = both (λ (n : ℕ). n < 128) cm.loader.busy k.next h.events.handled;
+    handled = handled_in cm.loader rest.events.handled k.loader h.events.handled;
   };
 }
 
@@ -541,8 +539,7 @@ common_start = record {
     waiting = omega arith;
     requests = all_tabulate request0 (λ i. RequestInRange) (λ i. request0_in) 16 _ (λ i. request0_in);
   };
-  request = request0_in;
-  next = lit< tt;
+  loader = tt;
   phases = all_tabulate 0 (λ k n. n < phase_limit) (λ k. lit< tt) 9 _ (λ k. lit< tt);
 }
 

@@ -11,6 +11,7 @@ use lib.ListN.{get_or, length, length-set, get_or-eq_default, set}
 use lib.Pow.{pow_mono, pow_pos}
 use lib.Seq.{get_or-set_same, get_or-set_other}
 use Rattle.bools.specs.Pick.{pick}
+use Rattle.std.proofs.Common.{Ok, Option}
 use Rattle.words.specs.Word.{bit, fields, pack}
 use Rattle.words.proofs.Fields.{bit_low}
 use Rattle.words.proofs.Gather.{pack_ext, pack_is}
@@ -25,9 +26,9 @@ use Rattle.gates.specs.Gate.{each_gate, failed, gate0, gate_at, gate_bits, is_er
 use Rattle.gates.specs.Gate.{state_number, state_word, with_mode, with_prepare, with_recover, with_timeout}
 use Rattle.counters.specs.Counter.{clear_counters, cleared, counter0, counter_at, is_over, is_under, overflow_word, reset_on, with_input}
 use Rattle.lines.specs.Raw.{raw_at}
+use Rattle.loader.specs.Loader.{busy}
 use Rattle.loader.specs.Memory.{is_whole, word_at}
 use Rattle.watchdogs.specs.Watchdog.{error_of, reset_in, reset_of, reset_watchdogs, step_watchdogs, watchdog0, watchdog_at, watchdog_word, with_reset}
-use Rattle.device.specs.declared.answer.Answer.TheVariants.{Done}
 use Rattle.device.specs.declared.map.Register.{Register}
 use Rattle.device.specs.declared.map.Register.TheVariants.{Nothing, Readout, Other, Control, Mode, Timeout, Key, Enable, Reload, Prepare, Recover, Input, Group, Word}
 use Rattle.device.specs.declared.map.Setting.{Setting}
@@ -42,7 +43,7 @@ use Rattle.device.specs.Answer.{is_done}
 use Rattle.registers.specs.Calls.{Call, tick, write, tag, download, after, answer, called, call_answer, download_answer, from, machine0, step}
 use Rattle.interlocks.specs.Interlock.{interlocks, other_signals, output_count, selected, signals, trips, trips_by}
 use Rattle.device.specs.Map.{backplane_map, below, control_map, counter_map, decode_of, event_map, kept, output_block, output_words, status_map}
-use Rattle.reading.specs.Read.{answer_for, half_of, low_first, read_by, read_of, setting_word, status_word, word_in}
+use Rattle.reading.specs.Read.{answer_for, half_of, low_first, read_of, setting_word, status_word, with_word, word_in}
 use Rattle.device.specs.State.{Machine, power_up, with_counters, with_gates, with_rest, with_state}
 use Rattle.tagging.specs.Tag.{command_of, commanded, events_on, noted_in, right_key, tag_of}
 use Rattle.ticking.specs.Tick.{rest_tick, tick_of}
@@ -244,7 +245,7 @@ answered : (m : Machine) → length m.memory ≡ 16384 → (a w : ℕ) → answe
 unfolding answer call_answer
 answered m h a w = rw (eq-eqb (length m.memory) 16384 h)
 
-read : (m : Machine) → length m.memory ≡ 16384 → (a : ℕ) → read_of m a ≡ read_by (answer_for (decode_of a)) (word_in m (decode_of a))
+read : (m : Machine) → length m.memory ≡ 16384 → (a : ℕ) → read_of m a ≡ with_word (answer_for (decode_of a)) (word_in m (decode_of a))
 unfolding read_of
 read m h a = rw (eq-eqb (length m.memory) 16384 h)
 
@@ -313,37 +314,37 @@ setting_back s h (WatchdogReset k) l w =
 setting_back s h (Selection j) l w = get_or-set_same s.rest.selections j _ 0 (omega (arith, h.selections))
 
 -- a request that is refused stores nothing, and is no accepted write
-reload_back : (w : ℕ) (cm : Common) → reload_answer w cm ≡ Done → (reload_write w cm).reload ≡ kept Reload w
+reload_back : (w : ℕ) (cm : Common) → reload_answer w cm ≡ Ok tt → (reload_write w cm).reload ≡ kept Reload w
 unfolding reload_write
 reload_back w cm e =
-    ap (λ (b : Bool). (pick b (with_reload (kept Reload w) (pick (triggers w cm) (requested w cm) cm)) cm).reload) (ap is_done e)
+    ap (λ (b : Bool). (pick b (with_reload (kept Reload w) (pick (triggers w cm) (requested w cm) cm)) cm).reload) (ap (is_done {A = Unit}) e)
 
-back_at : (m : Machine) → Sized m → RestIn m → (r : Register) → InMap r → (w : ℕ) → write_answer m.state.common r w ≡ Done →
-    read_by (answer_for r) (word_in (write_at m r w) r) ≡ read_by Done (kept r w)
+back_at : (m : Machine) → Sized m → RestIn m → (r : Register) → InMap r → (w : ℕ) → write_answer m.state.common r w ≡ Ok tt →
+    with_word (answer_for r) (word_in (write_at m r w) r) ≡ Ok (kept r w)
 unfolding write_answer write_at word_in control_write key_write enable_write counter_at gate_at word_at
-back_at m s h Nothing l w e = absurd (false≢true (ap is_done e))
-back_at m s h (Readout r) l w e = absurd (false≢true (ap is_done e))
-back_at m s h (Other r) l w e = ap (read_by Done) (setting_back m.state h r l w)
+back_at m s h Nothing l w e = absurd (false≢true (ap (is_done {A = Unit}) e))
+back_at m s h (Readout r) l w e = absurd (false≢true (ap (is_done {A = Unit}) e))
+back_at m s h (Other r) l w e = ap (with_word (Ok tt)) (setting_back m.state h r l w)
 back_at m s h Control l w e = refl
-back_at m s h Mode l w e = ap (read_by Done) (unfold kept in (gates_back mode with_mode (λ b x. refl) w m.state.gates))
+back_at m s h Mode l w e = ap (with_word (Ok tt)) (unfold kept in (gates_back mode with_mode (λ b x. refl) w m.state.gates))
 back_at m s h (Timeout g) l w e =
-    ap (λ (x : Gate). read_by Done x.timeout) (get_or-set_same m.state.gates g _ gate0 (omega (arith, s.gates)))
+    ap (λ (x : Gate). with_word (Ok tt) x.timeout) (get_or-set_same m.state.gates g _ gate0 (omega (arith, s.gates)))
 back_at m s h Key l w e = refl
 back_at m s h Enable l w e = refl
-back_at m s h Reload l w e = ap (read_by Done) (reload_back w m.state.common e)
-back_at m s h Prepare l w e = ap (read_by Done) (unfold kept in (gates_back prepare with_prepare (λ b x. refl) w m.state.gates))
-back_at m s h Recover l w e = ap (read_by Done) (unfold kept in (gates_back recover with_recover (λ b x. refl) w m.state.gates))
+back_at m s h Reload l w e = ap (with_word (Ok tt)) (reload_back w m.state.common e)
+back_at m s h Prepare l w e = ap (with_word (Ok tt)) (unfold kept in (gates_back prepare with_prepare (λ b x. refl) w m.state.gates))
+back_at m s h Recover l w e = ap (with_word (Ok tt)) (unfold kept in (gates_back recover with_recover (λ b x. refl) w m.state.gates))
 back_at m s h (Input n) l w e =
-    ap (λ (x : Counter). read_by Done x.input) (get_or-set_same m.state.counters n _ counter0 (omega (arith, s.counters)))
-back_at m s h (Group k) l w e = ap (read_by Done) (get_or-set_same m.state.groups k _ 0 (omega (arith, s.groups)))
-back_at m s h (Word i) l w e = ap (read_by Done) (get_or-set_same m.memory i _ 0 (omega (arith, s.memory)))
+    ap (λ (x : Counter). with_word (Ok tt) x.input) (get_or-set_same m.state.counters n _ counter0 (omega (arith, s.counters)))
+back_at m s h (Group k) l w e = ap (with_word (Ok tt)) (get_or-set_same m.state.groups k _ 0 (omega (arith, s.groups)))
+back_at m s h (Word i) l w e = ap (with_word (Ok tt)) (get_or-set_same m.memory i _ 0 (omega (arith, s.memory)))
 
 -- after an accepted write a read of the same register gives the word less its unused bits
-pub read_back : (l : List Call) (a w : ℕ) → answer (after l) (write a w) ≡ Done →
-    read_of (step (after l) (write a w)) a ≡ read_by Done (kept (decode_of a) w)
+pub read_back : (l : List Call) (a w : ℕ) → answer (after l) (write a w) ≡ Ok tt →
+    read_of (step (after l) (write a w)) a ≡ Ok (kept (decode_of a) w)
 read_back l a w e =
     read (step (after l) (write a w)) (full (after l) (sized_after l).memory (write a w)) a
-    ∙ ap (λ (m : Machine). read_by (answer_for (decode_of a)) (word_in m (decode_of a))) (written (after l) (sized_after l).memory a w)
+    ∙ ap (λ (m : Machine). with_word (answer_for (decode_of a)) (word_in m (decode_of a))) (written (after l) (sized_after l).memory a w)
     ∙ back_at (after l) (sized_after l) (rest_after l) (decode_of a) (in_map a) w (sym (answered (after l) (sized_after l).memory a w) ∙ e)
 
 -- ---- the other registers: part by part, what a write to r leaves as it was
@@ -371,7 +372,7 @@ record CommonApart (r : Register) (x y : Common) : Type 0 where
   key : (r ≡ Key → ⊥) → x.key ≡ y.key
   enable : (r ≡ Enable → ⊥) → x.enable ≡ y.enable
   reload : (r ≡ Reload → ⊥) → x.reload ≡ y.reload
-  busy : x.loader.busy ≡ y.loader.busy
+  busy : busy x.loader ≡ busy y.loader
 
 record GatesApart (r : Register) (x y : List Gate) : Type 0 where
   mode : (r ≡ Mode → ⊥) → (g : ℕ) → (gate_at x g).mode ≡ (gate_at y g).mode
@@ -663,7 +664,7 @@ reload_apart w cm = record {
   key = λ d. reload_same (λ x. x.key) w cm (λ v x. refl) refl;
   enable = λ d. reload_same (λ x. x.enable) w cm (λ v x. refl) refl;
   reload = λ d. absurd (d refl);
-  busy = reload_same (λ x. x.loader.busy) w cm (λ v x. refl) refl;
+  busy = reload_same (λ x. busy x.loader) w cm (λ v x. refl) refl;
 }
 
 control_common : (w : ℕ) (cm : Common) → CommonApart Control (control_write w cm) cm
@@ -808,8 +809,8 @@ other_register : (l : List Call) (a w b : ℕ) → (decode_of a ≡ decode_of b 
 other_register l a w b d f =
     let size = (sized_after l).memory in
     read (step (after l) (write a w)) (full (after l) size (write a w)) b
-    ∙ ap (λ (m : Machine). read_by (answer_for (decode_of b)) (word_in m (decode_of b))) (written (after l) size a w)
-    ∙ ap (read_by (answer_for (decode_of b)))
+    ∙ ap (λ (m : Machine). with_word (answer_for (decode_of b)) (word_in m (decode_of b))) (written (after l) size a w)
+    ∙ ap (with_word (answer_for (decode_of b)))
     (word_apart (decode_of a) (write_at (after l) (decode_of a) w) (after l)
     (apart_written (after l) (sized_after l) (rest_after l) (decode_of a) (in_map a) w) (decode_of b) d f)
     ∙ sym (read (after l) size b)
@@ -825,8 +826,8 @@ gap_read : (m k : Machine) → length m.memory ≡ 16384 → length k.memory ≡
 unfolding word_in
 gap_read m k p q b e =
     read m p b
-    ∙ ap (λ (r : Register). read_by (answer_for r) (word_in m r)) e
-    ∙ sym (ap (λ (r : Register). read_by (answer_for r) (word_in k r)) e)
+    ∙ ap (λ (r : Register). with_word (answer_for r) (word_in m r)) e
+    ∙ sym (ap (λ (r : Register). with_word (answer_for r) (word_in k r)) e)
     ∙ sym (read k q b)
 
 pub read_other : (l : List Call) (a w b : ℕ) → (a ≡ b → ⊥) → follows (decode_of a) (decode_of b) ≡ false →

@@ -11,6 +11,7 @@ use lib.Dec.{eqb}
 use lib.IntN.{pos}
 use lib.ListN.{get_or, length, length-set, set}
 use lib.Seq.{ext_get_or, set-get_or}
+use Rattle.std.proofs.Common.{Option, Some, None}
 use Rattle.bools.specs.Pick.{pick}
 use Rattle.words.specs.Word.{bit}
 use Rattle.words.proofs.Fields.{bit_low}
@@ -18,7 +19,7 @@ use Rattle.bools.proofs.Tests.{both, cases}
 use Rattle.lists.proofs.Tables.{any_each, get_or_each, get_d_tabulate, length_tabulate}
 use Rattle.counters.specs.declared.counter.Counter.{Counter}
 use Rattle.gates.specs.declared.gate.Gate.{Gate}
-use Rattle.loader.specs.declared.loader.Loader.{Loader}
+use Rattle.loader.specs.declared.loader.Reload.{Reload}
 use Rattle.counters.specs.Counter.{cleared, counter_step, counter_tick, reset_on, with_count, with_input}
 use Rattle.gates.specs.Gate.{each_gate, gate0, gate_at, gate_bits, gate_step, gate_with, mode, prepare, recover, with_mode, with_prepare, with_prepare_pulse, with_recover, with_recover_pulse, with_timeout}
 use Rattle.gates.proofs.Gates.{gate_bit, length_each_gate}
@@ -217,9 +218,10 @@ unfolding sheet_tag
 formed_tag s f t = both Formed (events_on s.common) (both Formed (right_key s.common t) (formed_command s f t) f) f
 
 -- the loader leaves the count, and RESET holds it
-load_count : (c : ℕ) (l : Loader) (group : ℕ) (memory : List ℕ) (x : Counter) → (sheet_load c l group memory x).count ≡ x.count
+load_count : (c : ℕ) (l : Option Reload) (group : ℕ) (memory : List ℕ) (x : Counter) → (sheet_load c l group memory x).count ≡ x.count
 unfolding sheet_load loaded
-load_count c l group memory x = cases (eqb c l.next && takes l group) (λ e. rw e refl) (λ e. rw e refl)
+load_count c None group memory x = refl
+load_count c (Some l) group memory x = both (λ (y : Counter). y.count ≡ x.count) (eqb c l.next && takes l group) refl refl
 
 held_zero : (control rises was is : ℕ) (x : Counter) → reset_on control ≡ true → (counter_tick control rises was is x).count ≡ pos 0
 unfolding counter_tick counter_step

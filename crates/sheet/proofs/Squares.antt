@@ -8,6 +8,7 @@ use mathlib.Core.Path.{◌≡◌, refl, sym, ap, ◌∙◌}
 use borrow.Author.Tests.{eqb-true, eqb-false, eq-eqb, ne_eqb, ltb-true, ltb-false}
 use lib.Dec.{eqb, ltb}
 use lib.ListN.{length, get_or, set}
+use Rattle.std.proofs.Common.{Option, Some, None}
 use Rattle.bools.specs.Pick.{pick}
 use Rattle.words.specs.Word.{masked_bits}
 use Rattle.words.proofs.Fields.{nibble_low}
@@ -15,7 +16,7 @@ use Rattle.bools.proofs.Tests.{agree, cases, pick_ap, pick_same}
 use Rattle.lists.proofs.Splice.{get_or_before, get_or_behind, get_or_inside}
 use Rattle.lists.proofs.Tables.{get_or_each, get_d_set, get_d_tabulate, length_each, set_tabulate, tabulate_ext}
 use Rattle.counters.specs.declared.counter.Counter.{Counter}
-use Rattle.loader.specs.declared.loader.Loader.{Loader}
+use Rattle.loader.specs.declared.loader.Reload.{Reload as Reloading}
 use Rattle.counters.specs.Counter.{clear_counters, cleared, counter0, counter_at, counter_tick, reset_on, tick_counters}
 use Rattle.gates.specs.Gate.{each_gate, gate0, gate_step, outputs_of, with_mode, with_prepare, with_prepare_pulse, with_recover, with_recover_pulse, with_timeout}
 use Rattle.lines.specs.Lines.{bad_levels, rises_of}
@@ -103,10 +104,11 @@ module _ (c : ℕ) (c< : c < 128) where
         own_words_at c c< memory size d 3 (omega arith),
       )
 
-  load : (l : Loader) (groups memory : List ℕ) (xs : List Counter) → length xs ≡ 128 → length memory ≡ 16384 →
+  load : (l : Option Reloading) (groups memory : List ℕ) (xs : List Counter) → length xs ≡ 128 → length memory ≡ 16384 →
       counter_at (load_into l groups memory xs) c ≡ sheet_load c l (group_at groups c) (own_words c memory) (counter_at xs c)
   unfolding load_into sheet_load counter_at
-  load l groups memory xs p q =
+  load None groups memory xs p q = refl
+  load (Some l) groups memory xs p q =
       pick_ap (λ (x : List Counter). get_or x c counter0) (takes l (group_at groups l.next)) _ xs
       ∙ rw (get_d_set xs l.next _ c counter0 (omega arith))
       (cases (eqb c l.next)
