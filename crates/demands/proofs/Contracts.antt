@@ -1,6 +1,7 @@
 -- What a caller learns from each of the library's functions, its contract as the prover reads it, is the statement of specs/Returned.antt:
 -- the two are the same by computing. So the theorems of Returned.antt rest on the contracts and on nothing read by eye.
 use mathlib.Core.Path.{◌≡◌, refl}
+use contract.BorrowLft.{◌⊑◌}
 use Rattle.registers.specs.Calls.{tick, write, tag, download}
 use Rattle.device.specs.State.{machine}
 use Rattle.registers.proofs.power_up.Reads as power_up_reads
@@ -11,6 +12,8 @@ use Rattle.registers.proofs.tag.Reads as tag_reads
 use Rattle.registers.proofs.tick.Reads as tick_reads
 use Rattle.registers.proofs.download.Reads as download_reads
 use Rattle.trace.proofs.run.Reads as run_reads
+use Rattle.device.proofs.number.Reads as number_reads
+use Rattle.records.proofs.U16FromStop.from.Reads as stop_number_reads
 use Rattle.demands.specs.Returned.{Looked, Numbered, Powered, Ran, Returned, Scanned, StopNumbered}
 
 -- a holds the arguments in their order, s what those lent to be written are at the end; what is lent to be read alone stays as it was
@@ -42,6 +45,13 @@ pub run_contract : run_reads.Learnt ≡
     (λ κs a report s. Ran (machine a.0.now a.1.0.now) a.1.1.0.now a.1.1.1.0 s.0.now report s.1.0.now)
 run_contract = refl
 
+-- of what any call returns, whatever the type T of the value of an accepted one
+pub number_contract : number_reads.Learnt ≡ (λ T laws copies clones calls κs a k s. Numbered a.0 k)
+number_contract = refl
+
+pub stop_number_contract : stop_number_reads.Learnt ≡ (λ κs a k s. StopNumbered a.0 k)
+stop_number_contract = refl
+
 -- ---- And none of them asks anything of its caller: there is no `requires`.
 
 pub power_up_asks : power_up_reads.Asked ≡ (λ κs a. Unit)
@@ -67,3 +77,10 @@ download_asks = refl
 
 pub run_asks : run_reads.Asked ≡ (λ κs a. Unit)
 run_asks = refl
+
+-- nor does `number`, but for Rust's own rule that what the value T borrows lives as long as the answer
+pub number_asks : number_reads.Asked ≡ (λ T laws copies clones calls κs a. T.lives ⊑ κs.0)
+number_asks = refl
+
+pub stop_number_asks : stop_number_reads.Asked ≡ (λ κs a. Unit)
+stop_number_asks = refl

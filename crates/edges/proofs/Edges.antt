@@ -5,6 +5,7 @@ use Prim.Native.Nat.{ℕ, zero, suc, ◌+◌, ◌-◌, ◌*◌, ◌/◌, ◌%◌
 use mathlib.Core.List.{List, [], ◌∷◌, ◌++◌}
 use lib.Dec.{eqb, ltb}
 use lib.ListN.{get_or, length, replicate}
+use Rattle.std.proofs.Common.{Ok, Err}
 use Rattle.bools.specs.Pick.{pick}
 use Rattle.words.specs.Word.{bit_of}
 use Rattle.lists.specs.Checks.{Row, row}
@@ -20,11 +21,10 @@ use Rattle.device.specs.Map.{decode_of}
 use Rattle.device.specs.State.{machine, memory0, power_up, rest0, rest_of, with_rest}
 use Rattle.reading.specs.Read.{read_of, word_in}
 use Rattle.registers.specs.Calls.{Call, tick, write, tag, download, after, from, machine0}
-use Rattle.registers.proofs.Cases.{reads, answers, often, pulses, counting, triggered}
+use Rattle.registers.proofs.Cases.{word_shown, reads, answers, often, pulses, counting, triggered}
 use Rattle.leaps.specs.Leap.{leap_of, quiet}
-use Rattle.records.specs.declared.Record.{Record}
-use Rattle.records.specs.declared.Record.TheVariants.{AtEnd, Malformed, Ticks, Write, Tag}
-use Rattle.records.specs.Records.{record_at}
+use Rattle.records.specs.declared.Record.TheVariants.{Ticks, Write, Tag}
+use Rattle.records.specs.Records.{Found, record_at}
 use Rattle.sheet.specs.Lines.{lines_of}
 use Rattle.sheet.specs.OwnPart.{own_part_of}
 use Rattle.sheet.specs.Sheet.{Sheet, sheet0, sheet_after}
@@ -35,7 +35,7 @@ use Rattle.worked.proofs.Worked.{reports}
 abbrev pub onward : List Call → ℕ → ℕ → ℕ → List Call → ℕ → ℕ
 onward l k inputs gatelevels more a =
     pick (quiet k (after l).state inputs gatelevels)
-    (read_of (from (machine (leap_of k (after l).state gatelevels) (after l).memory) more) a).word
+    (word_shown (read_of (from (machine (leap_of k (after l).state gatelevels) (after l).memory) more) a))
     65_536
 
 -- ---- lines and test pulses
@@ -174,6 +174,7 @@ counter_rows =
 -- a tick at power-up but for the raw counts, all of which stand at n
 abbrev pub raw_after : ℕ → ℕ → ℕ → ℕ
 raw_after n inputs a =
+    word_shown
     (read_of
     (from
     (machine
@@ -181,7 +182,7 @@ raw_after n inputs a =
     (rest_of rest0.masks rest0.timeout rest0.selections rest0.watchdogs (tabulate 54 (λ i. n)) rest0.gatelevels rest0.events))
     memory0)
     (tick inputs 0 ∷ []))
-    a).word
+    a)
 
 unfoldable pub raw_rows : List Row
 raw_rows =
@@ -378,12 +379,11 @@ watchdog_rows =
 -- ---- traces
 
 -- a record's repeat, levels, address and word, or tag, as one number; 0 for none
-abbrev pub told : Record → ℕ
-told AtEnd = 0
-told (Malformed stop) = 0
-told (Ticks n inputs gates) = (n * 2 ^ 56 + inputs) * 2 ^ 16 + gates
-told (Write a w) = a * 2 ^ 16 + w
-told (Tag t) = t
+abbrev pub told : Found → ℕ
+told (Err stop) = 0
+told (Ok (Ticks n levels)) = (n * 2 ^ 56 + levels.inputs) * 2 ^ 16 + levels.gates
+told (Ok (Write a w)) = a * 2 ^ 16 + w
+told (Ok (Tag t)) = t
 
 unfoldable pub trace_rows : List Row
 trace_rows =

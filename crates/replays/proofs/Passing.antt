@@ -7,16 +7,15 @@ use mathlib.Core.List.{List, [], ◌∷◌, ◌++◌, map, map-append, append_as
 use mathlib.Core.Path.{◌≡◌, refl, sym, ap, subst, ◌∙◌}
 use borrow.Author.Tests.{le-ltb}
 use lib.ListN.{length, replicate, length-append, length-replicate}
+use Rattle.std.proofs.Common.{Err}
 use Rattle.lists.proofs.Tables.{tabulate_fill}
 use Rattle.loader.specs.Memory.{is_whole}
 use Rattle.device.specs.State.{Machine}
 use Rattle.lines.specs.Lines.{bad_levels}
 use Rattle.registers.specs.Calls.{Call, from}
 use Rattle.registers.proofs.Lists.{from_append}
-use Rattle.records.specs.declared.Record.{Record}
-use Rattle.records.specs.declared.Record.TheVariants.{AtEnd}
 use Rattle.records.specs.declared.Stop.TheVariants.{End}
-use Rattle.records.specs.Records.{next_at, record_at}
+use Rattle.records.specs.Records.{Found, next_at, record_at}
 use Rattle.trace.specs.Run.{Run, begun, by_record, machine_of, once_of, passes, repeated, report_of, run_from, run_of, run_on, stops_by, ticks_in}
 use Rattle.trace.proofs.Listed.{halted_stays, run_on_lem}
 use Rattle.captures.specs.Repeats.{Repeat, expand}
@@ -83,12 +82,12 @@ module _ (budget : ℕ) where
       used q + r.times ≤ budget → once_of t budget q ≡ passes t q (repeated r.times (tick_of r.element)) r.times false
   unfolding once_of by_record ticks_in
   once_tick t q r e good h =
-      ap (λ (x : Record). by_record t budget x q) e
+      ap (λ (x : Found). by_record t budget x q) e
       ∙ rw (good, le-ltb (budget - used q) r.times (omega arith))
 
-  once_end : (t : List ℕ) (q : Run) → record_at t (place q) ≡ AtEnd → once_of t budget q ≡ stops_by End q
+  once_end : (t : List ℕ) (q : Run) → record_at t (place q) ≡ Err End → once_of t budget q ≡ stops_by End q
   unfolding once_of by_record
-  once_end t q e = ap (λ (x : Record). by_record t budget x q) e
+  once_end t q e = ap (λ (x : Found). by_record t budget x q) e
 
   turn : (t : List ℕ) (fuel : ℕ) (q n : Run) → q.progress.going ≡ true → once_of t budget q ≡ n → run_from (suc fuel) t budget q ≡ run_from fuel t budget n
   turn t fuel q n g e =
@@ -103,7 +102,7 @@ module _ (budget : ℕ) where
   run_from_lem [] good_none (suc fuel) p q g at h f =
       let t : List ℕ = p ++ [] in
       let l : length t ≡ length p = ap length (append-nil p) in
-      let e : record_at t (place q) ≡ AtEnd = rw (at, append-nil) (end_read p) in
+      let e : record_at t (place q) ≡ Err End = rw (at, append-nil) (end_read p) in
       turn t fuel q (stops_by End q) g (once_end t q e) ∙ halted_stays t budget fuel (stops_by End q) refl ∙ ended_none t q (at ∙ sym l)
   run_from_lem (r ∷ rs) (good_more narrow level good) (suc fuel) p q g at h f =
       let t : List ℕ = p ++ (record_bytes r ++ written rs) in

@@ -6,11 +6,12 @@ use mathlib.Core.Path.{◌≡◌, refl, sym, ap, subst, ◌∙◌}
 use lib.ListN.{length, take}
 use Rattle.std.proofs.Common.{Ok}
 use Rattle.loader.specs.Memory.{is_whole}
+use Rattle.device.specs.declared.state.Crate.{Crate}
 use Rattle.device.specs.State.{Machine, machine}
 use Rattle.registers.specs.Calls.{Call, from, step}
 use Rattle.records.specs.declared.Stop.TheVariants.{End}
-use Rattle.trace.specs.declared.Progress.{Progress}
-use Rattle.trace.specs.Run.{machine_of, report_of, run, run_of, run_on}
+use Rattle.trace.specs.declared.Report.{Report}
+use Rattle.trace.specs.Run.{machine_of, progress_of, report_of, run, run_of, run_on}
 use Rattle.captures.specs.Captures.{frames_of, has_bad, records_of, trace_of}
 use Rattle.captures.specs.Repeats.{expand}
 use Rattle.captures.specs.Returned.{Made}
@@ -45,10 +46,10 @@ module _ (capture : List ℕ) (budget : ℕ) (room : length (frames_of capture) 
       run_written budget (records_of capture) (good_records capture good) h m whole
       ∙ ap (λ (xs : List Frame). run_on (from m (map tick_of xs)) (report_of End (length (trace_of capture)) (length xs) (length (records_of capture)) 0) false) back
 
-  -- of the code: p is what `run` returned, and memory what it left, on the bytes that `convert` wrote
+  -- of the code: `run` returned this report and left crate s and this memory, on the bytes that `convert` wrote
   module _ (out left : List ℕ) (bytes : ℕ) (made : Made capture out (Ok bytes) left)
-      (p : Progress) (memory : List ℕ) (ran : Ran m (take bytes left) budget p memory) where
-    pub convert_runs : run p memory ≡ run_on (from m (capture_ticks capture)) (report_of End bytes (length (frames_of capture)) (length (records_of capture)) 0) false
+      (s : Crate) (report : Report) (memory : List ℕ) (ran : Ran m (take bytes left) budget s report memory) where
+    pub convert_runs : run (progress_of s report false) memory ≡ run_on (from m (capture_ticks capture)) (report_of End bytes (length (frames_of capture)) (length (records_of capture)) 0) false
     convert_runs =
         let d = made_done capture bytes left out made in
         ran
@@ -57,11 +58,11 @@ module _ (capture : List ℕ) (budget : ℕ) (room : length (frames_of capture) 
         ∙ ap (λ (n : ℕ). run_on (from m (capture_ticks capture)) (report_of End n (length (frames_of capture)) (length (records_of capture)) 0) false) (sym d.size)
 
     -- crate and memory are those that calls of `tick`, frame by frame, leave
-    pub convert_ticks : (n : Machine) → Went m (map calling (capture_ticks capture)) n → machine p.state memory ≡ n
+    pub convert_ticks : (n : Machine) → Went m (map calling (capture_ticks capture)) n → machine s memory ≡ n
     convert_ticks n w =
         ap machine_of convert_runs ∙ sym (returned.went m (map calling (capture_ticks capture)) n w ∙ ap (from m) (listed m (capture_ticks capture)))
 
     -- the same of what the calls show
-    pub convert_ticks_seen : (seen : List Seen) (n : Machine) → WentSeen m (callings (capture_ticks capture)) seen n → machine p.state memory ≡ n
+    pub convert_ticks_seen : (seen : List Seen) (n : Machine) → WentSeen m (callings (capture_ticks capture)) seen n → machine s memory ≡ n
     convert_ticks_seen seen n w =
         ap machine_of convert_runs ∙ sym ((went m (callings (capture_ticks capture)) seen n w).1 ∙ ap (from m) (one_by_one m (capture_ticks capture)))

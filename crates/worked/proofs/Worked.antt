@@ -24,6 +24,7 @@ use Rattle.device.specs.State.{Machine, common0, machine, power_up}
 use Rattle.interlocks.specs.Scan.{scan_of}
 use Rattle.writing.specs.Write.{write_answer}
 use Rattle.sheet.specs.Requests.{Stand, finished, stand_after, waits, works}
+use Rattle.sheet.specs.Scans.{scan_at}
 use Rattle.trace.specs.declared.Report.{Report}
 use Rattle.records.specs.declared.Stop.{Stop}
 use Rattle.records.specs.declared.Stop.TheVariants.{End, Spent, Memory, UnknownTag, WrongLength, Cut, NoRepeat}
@@ -243,18 +244,17 @@ keyed = write 0x0A00 0xBEEF ∷ write 0x0A01 1 ∷ []
 unfoldable pub refusal_rows : List Row
 refusal_rows =
     -- 1 before all others: power-up, read, write, tag, tick, download
-    row 1 (number_of (powered short).answer)
+    row 1 (number_of (powered short).1)
     ∷ row 7 (get_or (powered_memory short) 0 0)
-    ∷ row 1 (number_of (read_of (machine power_up short) 0xC000).answer)
-    ∷ row 0 (read_of (machine power_up short) 0x0800).word
+    ∷ row 1 (number_of (read_of (machine power_up short) 0xC000))
+    ∷ row 1 (number_of (read_of (machine power_up short) 0x0800))
     ∷ row 7 (get_or (step (machine power_up short) (write 0x8000 9)).memory 0 0)
     ∷ row 1 (number_of (answer (machine power_up short) (write 0xC000 0)))
     ∷ row 1 (number_of (answer (machine power_up short) (tag 0)))
     ∷ row 1 (number_of (answer (machine power_up short) (tick (2 ^ 54) 0)))
     ∷ row 1 (number_of (answer (machine power_up short) (download 32 [])))
-    -- 2 with word 0, and 3
+    -- 2, and 3
     ∷ row 2 (read_answers [] 0x0905)
-    ∷ row 0 (reads [] 0x0905)
     ∷ row 2 (answers [] (write 0x0905 1))
     ∷ row 3 (answers [] (write 0x1800 1))
     -- 4 before 5; 0x0A02 stays as it was, and with no rise of TRIGGER nothing is refused
@@ -465,7 +465,7 @@ raw_rows =
 
 -- what a scan after a list gives of output o, as one number: a hundred for level 1, and the words read
 abbrev pub scan_on : Machine → ℕ → ℕ
-scan_on m o = 100 * get_or (scan_of m).levels o 0 + get_or (scan_of m).words o 0
+scan_on m o = 100 * bit_of (scan_at (scan_of m) o).level + (scan_at (scan_of m) o).words
 
 abbrev pub scans : List Call → ℕ → ℕ
 scans l o = scan_on (after l) o
@@ -476,7 +476,7 @@ under n = write (0x1000 + n) 0x0036 ∷ write 0x0802 1 ∷ tick 1 1 ∷ []
 
 -- the number of a scan on so many words of memory, and what it gives of output o
 abbrev pub scan_refused : ℕ → ℕ → ℕ
-scan_refused words o = 1000 * number_of (scan_of (machine power_up (replicate words 0))).answer + scan_on (machine power_up (replicate words 0)) o
+scan_refused words o = 1000 * number_of (scan_of (machine power_up (replicate words 0))) + scan_on (machine power_up (replicate words 0)) o
 
 unfoldable pub scan_rows : List Row
 scan_rows =
@@ -515,7 +515,7 @@ scan_rows =
     ∷ row 22 (scans (write 0x11B5 1 ∷ []) 5)
     -- overflows are not latched: RESET
     ∷ row 122 (scans (under 0 ++ (write 0x1100 1 ∷ write 0x0801 1 ∷ [])) 0)
-    -- refused 1, with zeros, on memories that are too short and too long; taken on one of 16,384
+    -- refused 1 on memories that are too short and too long; taken on one of 16,384
     ∷ row 1000 (scan_refused 0 0)
     ∷ row 1000 (scan_refused 16383 5)
     ∷ row 1000 (scan_refused 16385 5)
