@@ -7,7 +7,6 @@ use mathlib.Core.Path.{◌≡◌, sym, ap, subst, ◌∙◌}
 use borrow.Author.Tests.{eq-eqb}
 use lib.ListN.{length}
 use Rattle.std.proofs.Common.{Ok, Result, Some}
-use Rattle.std.specs.Result.{result_unwrap_or}
 use Rattle.words.specs.Word.{bit}
 use Rattle.loader.specs.declared.loader.Request.{Request}
 use Rattle.loader.specs.Memory.{is_whole}
@@ -19,7 +18,7 @@ use Rattle.interlocks.specs.Interlock.{trips}
 use Rattle.interlocks.specs.Scan.{scan_of}
 use Rattle.registers.specs.Calls.{Call, write, accepted_ticks, after, answer, from, left_by_refusal, machine0, powered, powered_memory, refusals, step}
 use Rattle.device.specs.Map.{decode_of, kept}
-use Rattle.reading.specs.Read.{low_first, read_of}
+use Rattle.reading.specs.Read.{low_first, read_of, word_shown}
 use Rattle.device.specs.State.{Machine, machine}
 use Rattle.registers.proofs.Lists.{from_append}
 use Rattle.trace.specs.declared.Report.{Report}
@@ -150,7 +149,7 @@ code_refused m x a n back e = back.1 ∙ refused m x (sym (ap is_done back.0) �
 
 -- the levels of a scan are the bits of a read of 0x0719, for every crate and memory
 pub code_scan_level : (m : Machine) (q : Result (List OutputScan) Refusal) → Scanned m q → (p : Result ℕ Refusal) → Looked m 0x0719 p →
-    (o : ℕ) → o < 6 → (scan_at q o).level ≡ bit (result_unwrap_or p 0) o
+    (o : ℕ) → o < 6 → (scan_at q o).level ≡ bit (word_shown p) o
 code_scan_level m q scan p look o b = rw (scan, look) (scan_level m o b)
 
 -- and no fewer of the first words than a scan read make an output 0

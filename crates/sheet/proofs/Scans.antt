@@ -6,7 +6,6 @@ use mathlib.Core.Bool.{Bool, true, false, false≢true}
 use mathlib.Core.Path.{◌≡◌, refl, sym, ap, ◌∙◌}
 use borrow.Author.Tests.{ltb-false, ltb-true, not-false, not-true}
 use lib.Dec.{ltb}
-use Rattle.std.specs.Result.{result_unwrap_or}
 use Rattle.bools.proofs.Tests.{cases}
 use Rattle.words.specs.Word.{bit}
 use Rattle.words.proofs.Packing.{bit_pack, bit_zero}
@@ -19,7 +18,7 @@ use Rattle.interlocks.specs.declared.scan.OutputScan.{OutputScan}
 use Rattle.interlocks.specs.Interlock.{interlock, interlocks, output_count, trips}
 use Rattle.interlocks.specs.Scan.{output_scan, scan_of, words_read}
 use Rattle.interlocks.proofs.Scanning.{words_all}
-use Rattle.reading.specs.Read.{read_of, status_word, word_in}
+use Rattle.reading.specs.Read.{read_of, status_word, word_in, word_shown}
 use Rattle.sheet.specs.Scans.{no_scan, scan_at}
 
 module _ (m : Machine) (o : ℕ) (h : o < output_count) where
@@ -31,7 +30,7 @@ module _ (m : Machine) (o : ℕ) (h : o < output_count) where
   unfolding scan_of
   refused e = rw e refl
 
-  pub scan_level : (scan_at (scan_of m) o).level ≡ bit (result_unwrap_or (read_of m 0x0719) 0) o
+  pub scan_level : (scan_at (scan_of m) o).level ≡ bit (word_shown (read_of m 0x0719)) o
   unfolding read_of word_in status_word interlocks decode_of status_map
   scan_level =
       cases (is_whole m.memory)

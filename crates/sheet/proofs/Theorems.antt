@@ -7,7 +7,6 @@ use mathlib.Core.Logic.{◌↔◌}
 use mathlib.Core.Path.{◌≡◌, sym, ap, ◌∙◌}
 use lib.ListN.{length}
 use Rattle.std.proofs.Common.{Ok, Some}
-use Rattle.std.specs.Result.{result_unwrap_or}
 use Rattle.words.specs.Word.{bit}
 use Rattle.loader.specs.declared.loader.Request.{Request}
 use Rattle.loader.specs.Memory.{is_whole}
@@ -17,7 +16,7 @@ use Rattle.registers.specs.Calls.{Call, write, accepted_ticks, after, answer, fr
 use Rattle.device.specs.Map.{decode_of, kept}
 use Rattle.interlocks.specs.Interlock.{trips}
 use Rattle.interlocks.specs.Scan.{scan_of}
-use Rattle.reading.specs.Read.{low_first, read_of}
+use Rattle.reading.specs.Read.{low_first, read_of, word_shown}
 use Rattle.device.specs.State.{Machine}
 use Rattle.registers.proofs.Refused as refusing
 use Rattle.trace.specs.Passed.{calls_in, passed_in}
@@ -156,7 +155,7 @@ raw_alike j b l m e =
 -- Document 02, CR 3, for every crate and memory, so after every list
 module _ (m : Machine) (o : ℕ) (h : o < 6) where
   -- The level that a scan gives of output o is bit o of what a read of 0x0719 gives.
-  pub scan_level : (scan_at (scan_of m) o).level ≡ bit (result_unwrap_or (read_of m 0x0719) 0) o
+  pub scan_level : (scan_at (scan_of m) o).level ≡ bit (word_shown (read_of m 0x0719)) o
   scan_level = scanning.scan_level m o h
 
   -- No fewer of its first selection words than those read make it 0.

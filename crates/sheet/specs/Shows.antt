@@ -1,10 +1,9 @@
 -- Demand 3: what a counter shows, in the crate. The overflow bits "are those a read would then give".
 use Rattle.std.specs.Prelude.{ℕ, ◌+◌, ◌/◌, ◌%◌, Bool, ℤ}
-use Rattle.std.specs.Result.{result_unwrap_or}
 use Rattle.words.specs.Word.{bit}
 use Rattle.counters.specs.declared.counter.Counter.{Counter}
 use Rattle.counters.specs.Counter.{counter_at}
-use Rattle.reading.specs.Read.{read_of}
+use Rattle.reading.specs.Read.{read_of, word_shown}
 use Rattle.device.specs.State.{Machine}
 
 -- the values that demand 3 compares: count, thresholds, both overflow bits
@@ -21,5 +20,5 @@ shown c over under = record { count = c.count; positive = c.positive; negative =
 unfoldable pub shows : ℕ → Machine → Shown
 shows c m =
     shown (counter_at m.state.counters c)
-    (bit (result_unwrap_or (read_of m (0x0708 + c / 16)) 0) (c % 16))
-    (bit (result_unwrap_or (read_of m (0x0700 + c / 16)) 0) (c % 16))
+    (bit (word_shown (read_of m (0x0708 + c / 16))) (c % 16))
+    (bit (word_shown (read_of m (0x0700 + c / 16))) (c % 16))
