@@ -6,10 +6,11 @@ use Rattle.words.specs.Word.{bit, bit_of}
 use Rattle.device.specs.Answer.{number_of}
 use Rattle.registers.specs.Calls.{Call, tick, write, answer, after}
 use Rattle.reading.specs.Read.{read_of}
+pub use Rattle.reading.specs.Read.{word_shown}
 
 -- the word at an address after a list, and a bit of it
 abbrev pub reads : List Call → ℕ → ℕ
-reads l a = (read_of (after l) a).word
+reads l a = word_shown (read_of (after l) a)
 
 abbrev pub reads_bit : List Call → ℕ → ℕ → ℕ
 reads_bit l a i = bit_of (bit (reads l a) i)
@@ -20,7 +21,7 @@ answers l x = number_of (answer (after l) x)
 
 -- the number of a read after a list
 abbrev pub read_answers : List Call → ℕ → ℕ
-read_answers l a = number_of (read_of (after l) a).answer
+read_answers l a = number_of (read_of (after l) a)
 
 -- a call made n times
 abbrev pub often : ℕ → Call → List Call

@@ -6,6 +6,7 @@ use mathlib.Core.Bool.{Bool}
 use mathlib.Core.Path.{◌≡◌, ap, ◌∙◌}
 use borrow.Author.Tests.{eq-eqb, le-ltb, lt-ltb}
 use lib.ListN.{length}
+use Rattle.std.specs.Prelude.{Ok}
 use Rattle.words.specs.Word.{bit}
 use Rattle.words.proofs.Packing.{bit_pack}
 use Rattle.counters.specs.declared.counter.Counter.{Counter}
@@ -14,7 +15,7 @@ use Rattle.loader.specs.Memory.{memory_words}
 use Rattle.device.specs.declared.map.Register.TheVariants.{Readout}
 use Rattle.device.specs.declared.map.Status.TheVariants.{Negative, Positive}
 use Rattle.device.specs.Map.{decode_of, status_map}
-use Rattle.reading.specs.Read.{read_of, status_word, word_in}
+use Rattle.reading.specs.Read.{read_of, status_word, word_in, word_shown}
 use Rattle.device.specs.State.{Machine}
 
 decode_negative : (k : ℕ) → k < 8 → decode_of (0x0700 + k) ≡ Readout (Negative k)
@@ -36,11 +37,11 @@ decode_positive k h =
     )
 
 module _ (m : Machine) (whole : length m.memory ≡ memory_words) where
-  read_negative : (k : ℕ) → k < 8 → (read_of m (0x0700 + k)).word ≡ overflow_word is_under m.state.counters k
+  read_negative : (k : ℕ) → k < 8 → read_of m (0x0700 + k) ≡ Ok (overflow_word is_under m.state.counters k)
   unfolding read_of word_in status_word
   read_negative k h = rw (eq-eqb (length m.memory) memory_words whole, decode_negative k h)
 
-  read_positive : (k : ℕ) → k < 8 → (read_of m (0x0708 + k)).word ≡ overflow_word is_over m.state.counters k
+  read_positive : (k : ℕ) → k < 8 → read_of m (0x0708 + k) ≡ Ok (overflow_word is_over m.state.counters k)
   unfolding read_of word_in status_word
   read_positive k h = rw (eq-eqb (length m.memory) memory_words whole, decode_positive k h)
 
@@ -49,8 +50,8 @@ module _ (m : Machine) (whole : length m.memory ≡ memory_words) where
   overflow_bit test c =
       bit_pack 16 _ (c % 16) (mod-lt c (omega arith)) ∙ ap (λ (n : ℕ). test (counter_at m.state.counters n)) (div-add-mod c 16)
 
-  pub under_bit : (c : ℕ) → c < 128 → bit (read_of m (0x0700 + c / 16)).word (c % 16) ≡ is_under (counter_at m.state.counters c)
+  pub under_bit : (c : ℕ) → c < 128 → bit (word_shown (read_of m (0x0700 + c / 16))) (c % 16) ≡ is_under (counter_at m.state.counters c)
   under_bit c h = rw (read_negative (c / 16) (omega arith)) (overflow_bit is_under c)
 
-  pub over_bit : (c : ℕ) → c < 128 → bit (read_of m (0x0708 + c / 16)).word (c % 16) ≡ is_over (counter_at m.state.counters c)
+  pub over_bit : (c : ℕ) → c < 128 → bit (word_shown (read_of m (0x0708 + c / 16))) (c % 16) ≡ is_over (counter_at m.state.counters c)
   over_bit c h = rw (read_positive (c / 16) (omega arith)) (overflow_bit is_over c)

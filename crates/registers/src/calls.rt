@@ -1,247 +1,144 @@
 // The calls on a crate. Each is lent the threshold memory and refuses one that is not of 16,384 words.
 ghost use Rattle.std.specs.Prelude.{◌≡◌};
-ghost use Rattle.registers.specs.Calls.{outcome_of, step, powered, powered_memory};
+ghost use Rattle.registers.specs.Calls.{answer, step, powered, powered_memory};
 ghost use Rattle.registers.specs.Calls.{tick as call_tick, write as call_write, tag as call_tag, download as call_download};
 ghost use Rattle.interlocks.specs.Scan.{scan_of};
 ghost use Rattle.reading.specs.Read.{read_of};
 ghost use Rattle.device.specs.State.{machine, common0, rest0, power_up};
 
 use counters::Counter;
-use device::{Answer, Common, Crate, Events, Outcome, Read, Rest};
-use gates::{Gate, GateState};
-use interlocks::Scan;
-use loader::{Loader, Queue, Request};
+use device::{Common, Crate, Events, Refusal, Rest};
+use gates::Gate;
+use interlocks::OutputScan;
+use lines::Levels;
+use loader::Queue;
 use watchdogs::Watchdog;
 
 // What all counters share, at power-up.
+#[tactic(auto, using(lists::proofs::Tables::tabulate_fill))]
 fn new_common() -> Common
     ensures { result ≡ common0 }
 {
-    let request = Request {
-        dataset: 0,
-        group: 0,
-    };
-    let queue = Queue {
-        places: [request; 16],
-        waiting: 0,
-    };
-    let loader = Loader {
-        busy: false,
-        request,
-        next: 0,
-    };
     Common {
         control: 0,
         key: 0,
         enable: 0,
         reload: 0,
-        queue,
-        loader,
-        phases: [0u32; 9],
+        queue: Queue::default(),
+        loader: None,
+        phases: [0; 9],
     }
 }
 
 // What no counter sees, at power-up.
+#[tactic(auto, using(lists::proofs::Tables::tabulate_fill))]
 fn new_rest() -> Rest
     ensures { result ≡ rest0 }
 {
-    let watchdog = Watchdog {
-        value: 0,
-        error: false,
-        reset: false,
-    };
-    let events = Events {
-        low: 0,
-        high: 0,
-        code: 0,
-        handled: 0,
-    };
     Rest {
-        masks: [0u16; 6],
+        masks: [0; 6],
         timeout: 65535,
-        selections: [0u16; 132],
-        watchdogs: [watchdog; 54],
-        rawcounts: [0u32; 54],
+        selections: [0; 132],
+        watchdogs: [Watchdog::default(); 54],
+        rawcounts: [0; 54],
         gatelevels: 0,
-        events,
+        events: Events::default(),
     }
 }
 
 // The crate at power-up.
+#[tactic(auto, using(lists::proofs::Tables::tabulate_fill), unfolding(device::specs::State::power_up))]
 fn new_crate() -> Crate
     ensures { result ≡ power_up }
 {
-    let counter = Counter {
-        count: 0,
-        positive: 0,
-        negative: 0,
-        input: 0xFDB6,
-    };
-    let gate = Gate {
-        state: GateState::Idle,
-        timer: 0,
-        timeout: 0,
-        mode: false,
-        prepare: false,
-        recover: false,
-        preparepulse: false,
-        recoverpulse: false,
-        lastprepare: false,
-        output: false,
-    };
-    let common = new_common();
-    let rest = new_rest();
     Crate {
-        counters: [counter; 128],
-        groups: [0u16; 32],
-        gates: [gate; 12],
+        counters: [Counter::default(); 128],
+        groups: [0; 32],
+        gates: [Gate::default(); 12],
         levels: 0,
-        common,
-        rest,
+        common: new_common(),
+        rest: new_rest(),
     }
 }
 
 // Power-up: a new crate, and a memory of zeros.
 #[tactic(auto, unfolding(crate::specs::Calls::powered, crate::specs::Calls::powered_memory, device::specs::State::memory0))]
-pub fn power_up(mem: &mut [u16]) -> Outcome
+pub fn power_up(mem: &mut [u16]) -> (Crate, Result<(), Refusal>)
     ensures { (result ≡ powered mem.old) × (mem.new ≡ powered_memory mem.old) }
 {
     let state = new_crate();
-    if mem.len() == 16384 {
-        loader::clear_memory(mem);
-        return Outcome {
-            answer: Answer::Done,
-            state,
-        };
-    }
-    Outcome {
-        answer: Answer::Memory,
-        state,
-    }
+    let Some(mem) = mem.as_mut_array() else {
+        return (state, Err(Refusal::Memory));
+    };
+    loader::clear_memory(mem);
+    (state, Ok(()))
 }
 
-// A read: the word at an address, 0 where it is refused.
+// A read: the word at an address.
 #[tactic(auto, unfolding(reading::specs::Read::read_of))]
-pub fn read(state: Crate, mem: &[u16], address: u16) -> Read
-    ensures { (result ≡ read_of (machine state mem.now) address) × (mem.now ≡ mem.now) }
+pub fn read(state: &Crate, mem: &[u16], address: u16) -> Result<u16, Refusal>
+    ensures { result ≡ read_of (machine state.now mem.now) address }
 {
-    if mem.len() != 16384 {
-        return Read {
-            answer: Answer::Memory,
-            word: 0,
-        };
-    }
+    let mem = mem.as_array().ok_or(Refusal::Memory)?;
     let register = device::decode(address);
-    let answer = reading::answer_for(register);
-    let word = reading::word_in(state, mem, register);
-    Read { answer, word }
+    reading::answer_for(register)?;
+    Ok(reading::word_in(state, mem, register))
 }
 
-// A scan of the six outputs: levels and words read, all 0 where it is refused.
-pub fn scan(state: Crate, mem: &[u16]) -> Scan
-    ensures { (result ≡ scan_of (machine state mem.now)) × (mem.now ≡ mem.now) }
+// A scan of the six outputs: levels and words read.
+#[tactic(auto, unfolding(interlocks::specs::Scan::scan_of))]
+pub fn scan(state: &Crate, mem: &[u16]) -> Result<[OutputScan; 6], Refusal>
+    ensures { result ≡ scan_of (machine state.now mem.now) }
 {
     if mem.len() != 16384 {
-        return Scan {
-            answer: Answer::Memory,
-            levels: [0u16; 6],
-            words: [0u16; 6],
-        };
+        return Err(Refusal::Memory);
     }
-    interlocks::scan_outputs(state)
+    Ok(interlocks::scan_outputs(state))
 }
 
 // A write of a word to an address.
 #[tactic(auto, unfolding(crate::specs::Calls::answer, crate::specs::Calls::step, crate::specs::Calls::call_answer, crate::specs::Calls::called))]
-pub fn write(state: Crate, mem: &mut [u16], address: u16, word: u16) -> Outcome
-    ensures { (result ≡ outcome_of (machine state mem.old) (call_write address word)) × (mem.new ≡ (step (machine state mem.old) (call_write address word)).memory) }
+pub fn write(state: &mut Crate, mem: &mut [u16], address: u16, word: u16) -> Result<(), Refusal>
+    ensures { (result ≡ answer (machine state.old mem.old) (call_write address word)) × (machine state.new mem.new ≡ step (machine state.old mem.old) (call_write address word)) }
 {
-    if mem.len() != 16384 {
-        return Outcome {
-            answer: Answer::Memory,
-            state,
-        };
-    }
-    let register = device::decode(address);
-    let common = state.common;
-    let answer = writing::write_answer(common, register, word);
-    let next = writing::write_at(state, mem, register, word);
-    Outcome {
-        answer,
-        state: next,
-    }
+    let mem = mem.as_mut_array().ok_or(Refusal::Memory)?;
+    writing::write_at(state, mem, device::decode(address), word)
 }
 
 // An event tag.
 #[tactic(auto, unfolding(crate::specs::Calls::answer, crate::specs::Calls::step, crate::specs::Calls::call_answer, crate::specs::Calls::called))]
-pub fn tag(state: Crate, mem: &[u16], t: u32) -> Outcome
-    ensures { (result ≡ outcome_of (machine state mem.now) (call_tag t)) × (mem.now ≡ (step (machine state mem.now) (call_tag t)).memory) }
+pub fn tag(state: &mut Crate, mem: &[u16], t: u32) -> Result<(), Refusal>
+    ensures { (result ≡ answer (machine state.old mem.now) (call_tag t)) × (machine state.new mem.now ≡ step (machine state.old mem.now) (call_tag t)) }
 {
     if mem.len() != 16384 {
-        return Outcome {
-            answer: Answer::Memory,
-            state,
-        };
+        return Err(Refusal::Memory);
     }
-    let common = state.common;
-    let answer = tagging::tag_answer(common, t);
-    let next = tagging::tag_crate(state, t);
-    Outcome {
-        answer,
-        state: next,
-    }
+    tagging::tag_crate(state, t)
 }
 
 // A tick at these levels of inputs and gates.
 #[tactic(auto, unfolding(crate::specs::Calls::answer, crate::specs::Calls::step, crate::specs::Calls::call_answer, crate::specs::Calls::called))]
-pub fn tick(state: Crate, mem: &[u16], inputs: u64, gates: u16) -> Outcome
-    ensures { (result ≡ outcome_of (machine state mem.now) (call_tick inputs gates)) × (mem.now ≡ (step (machine state mem.now) (call_tick inputs gates)).memory) }
+pub fn tick(state: &mut Crate, mem: &[u16], levels: Levels) -> Result<(), Refusal>
+    ensures { (result ≡ answer (machine state.old mem.now) (call_tick levels.inputs levels.gates)) × (machine state.new mem.now ≡ step (machine state.old mem.now) (call_tick levels.inputs levels.gates)) }
 {
-    if mem.len() != 16384 {
-        return Outcome {
-            answer: Answer::Memory,
-            state,
-        };
+    let mem = mem.as_array().ok_or(Refusal::Memory)?;
+    if levels.are_bad() {
+        return Err(Refusal::Level);
     }
-    if lines::bad_levels(inputs, gates) {
-        return Outcome {
-            answer: Answer::Level,
-            state,
-        };
-    }
-    let next = ticking::tick_crate(state, mem, inputs, gates);
-    Outcome {
-        answer: Answer::Done,
-        state: next,
-    }
+    ticking::tick_crate(state, mem, levels);
+    Ok(())
 }
 
 // A download of 512 words to a dataset; the crate stays.
 #[tactic(auto, unfolding(crate::specs::Calls::answer, crate::specs::Calls::step, crate::specs::Calls::call_answer, crate::specs::Calls::called, crate::specs::Calls::download_answer))]
-pub fn download(state: Crate, mem: &mut [u16], dataset: u16, words: &[u16]) -> Outcome
-    ensures { (result ≡ outcome_of (machine state mem.old) (call_download dataset words.now)) × (mem.new ≡ (step (machine state mem.old) (call_download dataset words.now)).memory) }
+pub fn download(state: &Crate, mem: &mut [u16], dataset: u16, words: &[u16]) -> Result<(), Refusal>
+    ensures { (result ≡ answer (machine state.now mem.old) (call_download dataset words.now)) × (machine state.now mem.new ≡ step (machine state.now mem.old) (call_download dataset words.now)) }
 {
-    if mem.len() != 16384 {
-        return Outcome {
-            answer: Answer::Memory,
-            state,
-        };
-    }
-    if words.len() != 512 {
-        return Outcome {
-            answer: Answer::Length,
-            state,
-        };
-    }
+    let mem = mem.as_mut_array().ok_or(Refusal::Memory)?;
+    let words = words.as_array().ok_or(Refusal::Length)?;
     if 31 < dataset {
-        return Outcome {
-            answer: Answer::Dataset,
-            state,
-        };
+        return Err(Refusal::Dataset);
     }
     loader::download(mem, dataset as usize, words);
-    Outcome {
-        answer: Answer::Done,
-        state,
-    }
+    Ok(())
 }
