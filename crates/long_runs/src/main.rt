@@ -29,12 +29,12 @@ impl Machine {
 
     // The trace of a file, so many times.
     fn play_often(&mut self, rt: &(impl Files + Eprint), file: &[u8], times: u32) {
-        self.state = playing::play_often(rt, self.state, &mut self.mem, file, times);
+        playing::play_often(rt, &mut self.state, &mut self.mem, file, times);
     }
 
     // A trace, so many times.
     fn run_often(&mut self, trace: &[u8], times: u32) {
-        self.state = playing::run_often(self.state, &mut self.mem, trace, times);
+        playing::run_often(&mut self.state, &mut self.mem, trace, times);
     }
 
     // So many records of 65,535 ticks, and one of another number.
@@ -43,8 +43,9 @@ impl Machine {
         self.run_often(&record(more), 1);
     }
 
+    // The word of a register that is there.
     fn word(&self, address: u16) -> u64 {
-        registers::read(self.state, &self.mem, address).word.into()
+        registers::read(&self.state, &self.mem, address).unwrap_or(0).into()
     }
 
     // Two registers as one number, the second first.

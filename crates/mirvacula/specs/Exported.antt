@@ -1,10 +1,13 @@
 -- What `mirvacula_run` and `mirvacula_scan` give programs in C and Rust: a trace run from power-up, its report, and the register image or the
 -- scan of the crate that it leaves, as numbers.
-use Rattle.std.specs.Prelude.{ℕ, ◌+◌, Bool, ◌&&◌, List, [], ◌∷◌, ◌++◌, eqb, length}
+use Rattle.std.specs.Prelude.{ℕ, ◌+◌, Bool, ◌&&◌, List, [], ◌∷◌, ◌++◌, map, Result, Ok, Err, eqb, length}
+use Rattle.std.specs.Result.{result_unwrap_or}
 use Rattle.bools.specs.Pick.{pick}
+use Rattle.words.specs.Word.{bit_of}
 use Rattle.lists.specs.Table.{tabulate}
 use Rattle.loader.specs.Memory.{is_whole}
-use Rattle.interlocks.specs.declared.scan.Scan.{Scan}
+use Rattle.device.specs.declared.answer.Refusal.{Refusal}
+use Rattle.interlocks.specs.declared.scan.OutputScan.{OutputScan}
 use Rattle.interlocks.specs.Scan.{scan_of}
 use Rattle.registers.specs.Calls.{powered, powered_memory}
 use Rattle.reading.specs.Read.{read_of}
@@ -41,14 +44,18 @@ abbrev pub image_words : ℕ
 image_words = 0x1400
 
 unfoldable pub image_of : Machine → List ℕ
-image_of m = tabulate image_words (λ k. (read_of m (image_start + k)).word)
+image_of m = tabulate image_words (λ k. result_unwrap_or (read_of m (image_start + k)) 0)
 
--- a scan as numbers: the levels of outputs 0 to 5, then the numbers of words read of them
+-- a scan as numbers: the levels of outputs 0 to 5, then the numbers of words read of them; zeros where it is refused
 abbrev pub scan_words : ℕ
 scan_words = 12
 
-abbrev pub scan_numbers : Scan → List ℕ
-scan_numbers x = x.levels ++ x.words
+abbrev pub output_numbers : List OutputScan → List ℕ
+output_numbers outputs = map (λ x. bit_of x.level) outputs ++ map (λ x. x.words) outputs
+
+abbrev pub scan_numbers : Result (List OutputScan) Refusal → List ℕ
+scan_numbers (Ok outputs) = output_numbers outputs
+scan_numbers (Err cause) = tabulate scan_words (λ k. 0)
 
 -- what a call gives back, and what it leaves in the memory, the report and the words that it was lent
 pub record Exported : Type 0 where
@@ -61,7 +68,7 @@ abbrev pub exported : ℕ → List ℕ → List ℕ → List ℕ → Exported
 exported status memory report words = record { status = status; memory = memory; report = report; words = words }
 
 unfoldable pub run_on : List ℕ → List ℕ → ℕ → Run
-run_on memory t budget = run_of t budget (machine (powered memory).state (powered_memory memory))
+run_on memory t budget = run_of t budget (machine (powered memory).0 (powered_memory memory))
 
 -- the words are what `shown` gives of the crate and memory that the run leaves
 abbrev pub exported_by : (Machine → List ℕ) → Run → Exported

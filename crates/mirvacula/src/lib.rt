@@ -2,7 +2,7 @@
 // numbers; a capture as a trace; the words that patch a counter; sliding sums.
 #![tactic(auto)]
 
-ghost use Rattle.std.specs.Prelude.{◌++◌, ◌≡◌, eqb, ◌<◌, get_or, length};
+ghost use Rattle.std.specs.Prelude.{false, ◌≡◌, eqb, ◌<◌, get_or, length};
 ghost use Rattle.bools.specs.Pick.{pick};
 ghost use Rattle.captures.specs.Captures.{frame_in};
 ghost use Rattle.device.specs.State.{machine};
@@ -10,39 +10,26 @@ ghost use Rattle.mirvacula.specs.Converting.{answered, convert_of, unanswered};
 ghost use Rattle.lent.specs.Lent.{bad_buffer};
 ghost use Rattle.lent.specs.Sums.{lent_sample, lent_start, sum_sample_of, sum_start_of};
 ghost use Rattle.patching.specs.Patching.{group_word_of, input_word_of};
-ghost use Rattle.mirvacula.specs.Exported.{exported, export_of, image_of, image_words, scan_numbers, report_of, report_words, run_on};
+ghost use Rattle.mirvacula.specs.Exported.{exported, export_of, image_of, image_words, output_numbers, report_of, report_words, run_on};
 ghost use Rattle.mirvacula.specs.Exported.{scan_export_of, scan_words, stop_code};
 ghost use Rattle.records.specs.declared.Stop.TheVariants.{Memory};
 ghost use Rattle.records.specs.Stops.{stop_number};
-ghost use Rattle.trace.specs.Run.{run as run_run};
+ghost use Rattle.trace.specs.Run.{progress_of, run as run_run};
 
 use captures::Refusal;
 use device::Crate;
-use interlocks::Scan;
+use interlocks::OutputScan;
 use records::Stop;
-use trace::{Progress, Report};
+use trace::Report;
 
 // 0 for END, 254 for SPENT, else the cause's number: the C interface needs a number.
 fn stop_code(stop: Stop) -> u16
     ensures { result ≡ stop_code stop }
 {
     match stop {
-        Stop::End => 0,
         Stop::Spent => 254,
-        Stop::Memory => 1,
-        Stop::UnknownTag => 7,
-        Stop::WrongLength => 8,
-        Stop::Cut => 9,
-        Stop::NoRepeat => 10,
+        other => u16::from(other),
     }
-}
-
-// The code of a report.
-fn report_code(report: Report) -> u16
-    ensures { result ≡ stop_code report.stop }
-{
-    let stop = report.stop;
-    stop_code(stop)
 }
 
 // The report as five numbers.
@@ -50,42 +37,42 @@ fn put_report(out: &mut [u64], report: Report)
     requires { length out.old ≡ report_words }
     ensures { out.new ≡ report_of report }
 {
-    let code = report_code(report);
-    out[0] = code as u64;
+    out[0] = u64::from(stop_code(report.stop));
     out[1] = report.next as u64;
     out[2] = report.ticks;
     out[3] = report.records as u64;
     out[4] = report.refused as u64;
 }
 
-// The words of the registers from 0x0600 on.
-fn put_image(out: &mut [u16], state: Crate, mem: &[u16])
+// The words of the registers from 0x0600 on: 0 where a read is refused.
+fn put_image(out: &mut [u16], state: &Crate, mem: &[u16])
     requires { length out.old ≡ image_words }
-    ensures { out.new ≡ image_of (machine state mem.now) }
+    ensures { out.new ≡ image_of (machine state.now mem.now) }
 {
     for k in 0..0x1400u16 {
-        let read = registers::read(state, mem, 0x0600 + k);
-        out[k as usize] = read.word;
+        out[k as usize] = registers::read(state, mem, 0x0600 + k).unwrap_or(0);
     }
 }
 
 // Number k of a scan: the six levels, then the six numbers of words read.
-fn scan_number(levels: [u16; 6], words: [u16; 6], k: usize) -> u16
+fn scan_number(outputs: &[OutputScan; 6], k: usize) -> u16
     requires { k < scan_words }
-    ensures { result ≡ get_or (levels ++ words) k 0 }
+    ensures { result ≡ get_or (output_numbers outputs.now) k 0 }
 {
-    if k < 6 { levels[k] } else { words[k - 6] }
+    if k < 6 {
+        u16::from(outputs[k].level)
+    } else {
+        outputs[k - 6].words
+    }
 }
 
 // The scan as twelve numbers.
-fn put_scan(out: &mut [u16], scan: Scan)
+fn put_scan(out: &mut [u16], outputs: &[OutputScan; 6])
     requires { length out.old ≡ scan_words }
-    ensures { out.new ≡ scan_numbers scan }
+    ensures { out.new ≡ output_numbers outputs.now }
 {
-    let levels = scan.levels;
-    let words = scan.words;
     for k in 0..12 {
-        out[k] = scan_number(levels, words, k);
+        out[k] = scan_number(outputs, k);
     }
 }
 
@@ -97,17 +84,28 @@ fn misfit_code(words: usize) -> u16
     if words == 16384 { 255 } else { 1 }
 }
 
-// Runs a trace from power-up and fills in its report.
+// The outputs of a scan that is refused: the C interface has numbers alone, and these are zeros.
+const REFUSED: [OutputScan; 6] = [OutputScan {
+    level: false,
+    words: 0,
+}; 6];
+
+// Runs a trace from power-up and fills in its report: the crate that it leaves, and the report.
 #[tactic(auto, unfolding(crate::specs::Exported::run_on))]
-fn run_and_report(mem: &mut [u16], bytes: &[u8], budget: u64, report: &mut [u64]) -> Progress
+fn run_and_report(
+    mem: &mut [u16],
+    bytes: &[u8],
+    budget: u64,
+    report: &mut [u64],
+) -> (Crate, Report)
     requires { length report.old ≡ report_words }
-    ensures { (run_run result mem.new ≡ run_on mem.old bytes.now budget) × (report.new ≡ report_of result.report) }
+    ensures { (run_run (progress_of result.0 result.1 false) mem.new ≡ run_on mem.old bytes.now budget) × (report.new ≡ report_of result.1) }
 {
-    let start = registers::power_up(mem);
-    let first = start.state;
-    let end = trace::run(first, mem, bytes, budget);
-    put_report(report, end.report);
-    end
+    // a memory that power-up refuses stops the run too
+    let (mut state, _answer) = registers::power_up(mem);
+    let told = trace::run(&mut state, mem, bytes, budget);
+    put_report(report, told);
+    (state, told)
 }
 
 // Runs a trace from power-up on a lent memory with a budget of ticks. Nothing is done where the report is not of
@@ -126,9 +124,9 @@ pub extern "C" fn mirvacula_run(
     if !bools::both(report.len() == 5, image.len() == 0x1400) {
         return misfit_code(mem.len());
     }
-    let end = run_and_report(mem, bytes, budget, report);
-    put_image(image, end.state, mem);
-    report_code(end.report)
+    let (state, told) = run_and_report(mem, bytes, budget, report);
+    put_image(image, &state, mem);
+    stop_code(told.stop)
 }
 
 // Runs a trace as `mirvacula_run` does and scans the outputs of the crate that it leaves. Nothing is done where the report
@@ -147,10 +145,10 @@ pub extern "C" fn mirvacula_scan(
     if !bools::both(report.len() == 5, outputs.len() == 12) {
         return misfit_code(mem.len());
     }
-    let end = run_and_report(mem, bytes, budget, report);
-    let scan = registers::scan(end.state, mem);
-    put_scan(outputs, scan);
-    report_code(end.report)
+    let (state, told) = run_and_report(mem, bytes, budget, report);
+    let scan = registers::scan(&state, mem).unwrap_or(REFUSED);
+    put_scan(outputs, &scan);
+    stop_code(told.stop)
 }
 
 // An answer of the wrong length; a capture that is not of whole frames comes first. Numbers, as the C interface needs them.

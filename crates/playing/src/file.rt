@@ -1,6 +1,5 @@
 // Traces in files, played to a crate.
-ghost use Rattle.std.specs.Prelude.{◌≡◌, ◌≤◌, length};
-ghost use Rattle.io.specs.Counts.{IsPrefixLen};
+ghost use Rattle.std.specs.Prelude.{◌≡◌};
 ghost use Rattle.device.specs.State.{machine};
 ghost use Rattle.playing.specs.Often.{ran_often};
 
@@ -23,45 +22,40 @@ pub fn open_file<R: Files + Eprint>(rt: &R, file: &[u8]) -> Option<R::File> {
     }
 }
 
-// The bytes of a file at the start of the buffer, and how many they are: none where it cannot be opened, which is told on standard error.
-pub fn load<R: Files + Eprint>(rt: &R, file: &[u8], buf: &mut [u8]) -> usize
-    ensures { IsPrefixLen result buf.new }
-{
-    match open_file(rt, file) {
-        Some(mut opened) => {
-            standard_input::read_input(&mut opened, buf).unwrap_or_else(|e| e.length)
-        }
-        None => 0,
-    }
+// The bytes of a file, as many as the buffer holds, if it can be opened.
+pub fn load<'a, R: Files + Eprint>(rt: &R, file: &[u8], buf: &'a mut [u8]) -> Option<&'a [u8]> {
+    let mut opened = open_file(rt, file)?;
+    let n = standard_input::read_input(&mut opened, buf).unwrap_or_else(|e| e.length);
+    Some(&buf[..n])
 }
 
 // A trace, so many times, with 1,000,000 ticks each time.
 #[tactic(auto, using(crate::proofs::Runs::often_less, crate::proofs::Runs::often_done))]
-pub fn run_often(state: Crate, mem: &mut [u16], trace: &[u8], times: u32) -> Crate
-    ensures { machine result mem.new ≡ ran_often times trace.now (machine state mem.old) }
+pub fn run_often(state: &mut Crate, mem: &mut [u16], trace: &[u8], times: u32)
+    ensures { machine state.new mem.new ≡ ran_often times trace.now (machine state.old mem.old) }
 {
-    let mut on = state;
     for _ in 0..times {
-        on = trace::run(on, mem, trace, 1_000_000).state;
+        let _report = trace::run(state, mem, trace, 1_000_000);
     }
-    on
 }
 
 // The trace of a file, so many times: of what is read no contract can speak.
 pub fn play_often<R: Files + Eprint>(
     rt: &R,
-    state: Crate,
+    state: &mut Crate,
     mem: &mut [u16],
     file: &[u8],
     times: u32,
-) -> Crate {
+) {
     let mut buf = io::large_buffer();
-    let n = load(rt, file, &mut buf);
-    run_often(state, mem, &buf[..n], times)
+    if let Some(trace) = load(rt, file, &mut buf) {
+        run_often(state, mem, trace, times);
+    }
 }
 
 // The trace of a file from power-up.
 pub fn begin<R: Files + Eprint>(rt: &R, mem: &mut [u16], file: &[u8]) -> Crate {
-    let start = registers::power_up(mem);
-    play_often(rt, start.state, mem, file, 1)
+    let (mut state, _answer) = registers::power_up(mem);
+    play_often(rt, &mut state, mem, file, 1);
+    state
 }

@@ -3,6 +3,7 @@ use Prim.Native.Nat.{ℕ, suc, ◌+◌, ◌-◌, ◌<◌, ◌≤◌}
 use native.Mathlib.Omega.{arith}
 use mathlib.Core.List.{◌∷◌, ◌++◌}
 use mathlib.Core.Path.{◌≡◌, refl, sym}
+use Rattle.std.specs.Result.{result_unwrap_or}
 use Rattle.reading.specs.Read.{read_of}
 use Rattle.device.specs.State.{Machine}
 use Rattle.records.specs.declared.Stop.{Stop}
@@ -24,7 +25,7 @@ refusal_text _ no_end no_spent = refl
 -- the words up to an address: one more, and none
 module _ (m : Machine) (a end : ℕ) where
   pub words_more : a < end →
-      words_from m (end - a) a ≡ (32 ∷ hexadecimal 4 (read_of m a).word) ++ words_from m (end - (a + 1)) (a + 1)
+      words_from m (end - a) a ≡ (32 ∷ hexadecimal 4 (result_unwrap_or (read_of m a) 0)) ++ words_from m (end - (a + 1)) (a + 1)
   unfolding words_from
   words_more h =
       let e : end - a ≡ suc (end - (a + 1)) = omega arith in rw e

@@ -6,20 +6,21 @@ use borrow.Author.Tests.{eq-eqb}
 use lib.ListN.{length, take}
 use Rattle.std.proofs.Math.Nat.{min_comm}
 use Rattle.std.proofs.lemmas.List.{take_min}
-use Rattle.device.specs.declared.answer.Outcome.{Outcome}
+use Rattle.device.specs.declared.state.Crate.{Crate}
+use Rattle.device.specs.Answer.{Answer}
 use Rattle.registers.specs.Calls.{powered, powered_memory}
 use Rattle.device.specs.State.{machine, memory0}
-use Rattle.trace.specs.declared.Progress.{Progress}
-use Rattle.trace.specs.Run.{Run, machine_of, run_of, run}
+use Rattle.trace.specs.declared.Report.{Report}
+use Rattle.trace.specs.Run.{Run, machine_of, progress_of, run_of, run}
 use Rattle.printing.specs.Printed.{printed, program_bytes, program_prints, program_run, program_ticks}
 
 -- `words` is the memory lent, `start` the memory powered up
-pub prints : (input : List ℕ) (n : ℕ) (words start : List ℕ) (o : Outcome) (p : Progress) (memory : List ℕ) →
+pub prints : (input : List ℕ) (n : ℕ) (words start : List ℕ) (o : Crate × Answer) (s : Crate) (r : Report) (memory : List ℕ) →
     n ≡ min (length input) program_bytes → length words ≡ 16384 → o ≡ powered words → start ≡ powered_memory words →
-    run p memory ≡ run_of (take n input) program_ticks (machine o.state start) →
-    printed p.report (machine p.state memory) ≡ program_prints input
+    run (progress_of s r false) memory ≡ run_of (take n input) program_ticks (machine o.0 start) →
+    printed r (machine s memory) ≡ program_prints input
 unfolding program_run program_prints powered powered_memory
-prints input n words start o p memory taken long po ps e =
+prints input n words start o s r memory taken long po ps e =
     let m : start ≡ memory0 = rw eq-eqb at ps in
-    let r : run p memory ≡ program_run input = rw (taken, min_comm, take_min, po, m) at e in
-    ap (λ (q : Run). printed q.progress.report (machine_of q)) r
+    let ran : run (progress_of s r false) memory ≡ program_run input = rw (taken, min_comm, take_min, po, m) at e in
+    ap (λ (q : Run). printed q.progress.report (machine_of q)) ran

@@ -1,5 +1,6 @@
 -- Document 01, "Trace and printing program": the four lines that the program prints, as bytes.
 use Rattle.std.specs.Prelude.{ℕ, zero, suc, ◌+◌, List, [], ◌++◌, take, codes}
+use Rattle.std.specs.Result.{result_unwrap_or}
 use Rattle.pages.specs.Text.{decimal, hexadecimal}
 use Rattle.registers.specs.Calls.{machine0}
 use Rattle.reading.specs.Read.{read_of}
@@ -28,7 +29,7 @@ report_line r =
 -- n words from an address on, "four lower-case hexadecimal digits each"
 unfoldable pub words_from : Machine → ℕ → ℕ → List ℕ
 words_from m zero a = []
-words_from m (suc n) a = codes " " ++ hexadecimal 4 (read_of m a).word ++ words_from m n (a + 1)
+words_from m (suc n) a = codes " " ++ hexadecimal 4 (result_unwrap_or (read_of m a) 0) ++ words_from m n (a + 1)
 
 -- "It prints the run, both overflow blocks from the lowest address .., and 0x0719 (two)."
 unfoldable pub printed : Report → Machine → List ℕ
@@ -36,7 +37,7 @@ printed r m =
     report_line r
     ++ codes "NEG" ++ words_from m 8 0x0700 ++ codes "\n"
     ++ codes "POS" ++ words_from m 8 0x0708 ++ codes "\n"
-    ++ codes "OUT " ++ hexadecimal 2 (read_of m 0x0719).word ++ codes "\n"
+    ++ codes "OUT " ++ hexadecimal 2 (result_unwrap_or (read_of m 0x0719) 0) ++ codes "\n"
 
 -- "The program runs the first 65,536 bytes of standard input, .. from power-up with 1,000,000 ticks."
 abbrev pub program_bytes : ℕ

@@ -12,27 +12,26 @@ use trace::Report;
 
 // A line of the eight words from an address on, behind its name.
 #[tactic(auto, using(crate::proofs::Places::words_more, crate::proofs::Places::no_words, pages::proofs::Pages::cut_two, pages::proofs::Pages::cut_cut))]
-fn put_block(page: Page, name: &[u8], state: Crate, mem: &[u16], address: u16) -> Page
+fn put_block(page: Page, name: &[u8], state: &Crate, mem: &[u16], address: u16) -> Page
     requires { address + 8 < 65536 }
-    ensures { written result ≡ cut (written page ++ (name.now ++ (words_from (machine state mem.now) 8 address ++ codes "\n"))) }
+    ensures { written result ≡ cut (written page ++ (name.now ++ (words_from (machine state.now mem.now) 8 address ++ codes "\n"))) }
 {
     let mut line = page.put_text(name);
     for a in address..address + 8 {
-        let word = registers::read(state, mem, a).word;
+        let word = registers::read(state, mem, a).unwrap_or(0);
         line = line.put(b' ').put_hexadecimal(4, word.into());
     }
     line.put(b'\n')
 }
 
 // The report, both overflow blocks and the outputs.
-pub fn printed(report: Report, state: Crate, mem: &[u16]) -> Page
-    ensures text { written result ≡ printed_printed report (machine state mem.now) }
-    ensures memory { mem.now ≡ mem.now }
+pub fn printed(report: Report, state: &Crate, mem: &[u16]) -> Page
+    ensures { written result ≡ printed_printed report (machine state.now mem.now) }
 {
     let mut page = put_report(Page::new(), report);
     page = put_block(page, b"NEG", state, mem, 0x0700);
     page = put_block(page, b"POS", state, mem, 0x0708);
-    let outputs = registers::read(state, mem, 0x0719).word;
+    let outputs = registers::read(state, mem, 0x0719).unwrap_or(0);
     page.put_text(b"OUT ")
         .put_hexadecimal(2, outputs.into())
         .put(b'\n')
@@ -40,12 +39,11 @@ pub fn printed(report: Report, state: Crate, mem: &[u16]) -> Page
 
 // What the program prints for its input: its first 65,536 bytes, run from power-up with 1,000,000 ticks.
 pub fn rehearse(input: &[u8]) -> Page
-    ensures text { written result ≡ program_prints input.now }
-    ensures bytes { input.now ≡ input.now }
+    ensures { written result ≡ program_prints input.now }
 {
     let trace = &input[..input.len().min(65_536)];
     let mut mem = [0; 16384];
-    let start = registers::power_up(&mut mem);
-    let end = trace::run(start.state, &mut mem, trace, 1_000_000);
-    printed(end.report, end.state, &mem)
+    let (mut state, _answer) = registers::power_up(&mut mem);
+    let report = trace::run(&mut state, &mut mem, trace, 1_000_000);
+    printed(report, &state, &mem)
 }

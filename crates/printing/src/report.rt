@@ -15,7 +15,7 @@ fn put_stop(page: Page, stop: Stop) -> Page
     match stop {
         Stop::End => page.put_text(b"END"),
         Stop::Spent => page.put_text(b"SPENT"),
-        refusal => page.put_decimal(refusal.number().into()),
+        refusal => page.put_decimal(u16::from(refusal).into()),
     }
 }
 

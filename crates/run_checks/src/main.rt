@@ -1,6 +1,7 @@
 // Runs the checks that document 01 wants run, each from power-up, and prints the register that shows the result.
 #![tactic(auto)]
 
+use lines::Levels;
 use pages::Page;
 use playing::write;
 use std::rt::Files;
@@ -16,7 +17,7 @@ impl Check {
     fn run(&self, rt: &(impl Files + Print + Eprint)) {
         let mut mem = [0; 16384];
         let state = playing::begin(rt, &mut mem, self.file);
-        let word = registers::read(state, &mem, self.address).word;
+        let word = registers::read(&state, &mem, self.address).unwrap_or(0);
         let line = Page::new().put_text(self.shows);
         write(rt, line.put_hexadecimal(4, word.into()).put(b'\n'));
     }
@@ -82,19 +83,24 @@ const AUTORESET: [Check; 3] = [
 // 01's example, as the program prints it.
 fn example(rt: &(impl Files + Print + Eprint)) {
     let mut buf = io::large_buffer();
-    let n = playing::load(rt, b"example", &mut buf);
-    write(rt, printing::rehearse(&buf[..n]));
+    if let Some(trace) = playing::load(rt, b"example", &mut buf) {
+        write(rt, printing::rehearse(trace));
+    }
 }
 
 // The tick of the first rise of a test signal, counted by counter 0 on a direct gate, if there is one in 20,000.
 fn first_rise(signal: u16) -> Option<u64> {
     let mut mem = [0; 16384];
-    let start = registers::power_up(&mut mem);
-    let patched = registers::write(start.state, &mut mem, 0x1000, 0x0D80 + signal % 64);
-    let mut state = registers::write(patched.state, &mut mem, 0x0802, 1).state;
+    let (mut state, _answer) = registers::power_up(&mut mem);
+    registers::write(&mut state, &mut mem, 0x1000, 0x0D80 + signal % 64).ok()?;
+    registers::write(&mut state, &mut mem, 0x0802, 1).ok()?;
+    let levels = Levels {
+        inputs: 0,
+        gates: 1,
+    };
     for tick in 1..=20_000 {
-        state = registers::tick(state, &mem, 0, 1).state;
-        if registers::read(state, &mem, 0x1200).word == 1 {
+        registers::tick(&mut state, &mem, levels).ok()?;
+        if registers::read(&state, &mem, 0x1200) == Ok(1) {
             return Some(tick);
         }
     }

@@ -20,19 +20,19 @@ fn fold(d: u32, word: u16) -> u32 {
 }
 
 // Of the words of the registers from 0x0600 to 0x19FF, and of the memory.
-fn digest(state: Crate, mem: &[u16; 16384]) -> u32 {
+fn digest(state: &Crate, mem: &[u16; 16384]) -> u32 {
     (0x0600..0x1A00)
-        .map(|address| registers::read(state, mem, address).word)
+        .map(|address| registers::read(state, mem, address).unwrap_or(0))
         .chain(mem.iter().copied())
         .fold(0, fold)
 }
 
 fn run(rt: &impl Print, stored: Stored<'_>) {
     let mut mem = [0; 16384];
-    let start = registers::power_up(&mut mem);
-    let end = trace::run(start.state, &mut mem, stored.trace, stored.budget);
-    let told = printing::put_report(Page::new(), end.report).put_text(b"DIGEST ");
-    let d = digest(end.state, &mem);
+    let (mut state, _answer) = registers::power_up(&mut mem);
+    let report = trace::run(&mut state, &mut mem, stored.trace, stored.budget);
+    let told = printing::put_report(Page::new(), report).put_text(b"DIGEST ");
+    let d = digest(&state, &mem);
     write(rt, told.put_hexadecimal(8, d.into()).put(b'\n'));
 }
 

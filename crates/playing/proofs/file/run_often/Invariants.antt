@@ -6,4 +6,4 @@ use Rattle.playing.proofs.file.run_often.Given as goal
 
 abbrev pub invariant-loop : goal.invariant-loop
 invariant-loop l =
-    ran_often (l.times - l.counter) l.trace (machine l.on l.mem) ≡ ran_often l.times l.trace (machine l.initial.on l.initial.mem)
+    ran_often (l.times - l.counter) l.trace (machine l.state l.mem) ≡ ran_often l.times l.trace (machine l.initial.state l.initial.mem)

@@ -8,17 +8,17 @@ use Rattle.printing.specs.Printed.{printed}
 use Rattle.printing.proofs.Sizes.{whole}
 use Rattle.printing.proofs.program.printed.Goals as goal
 
-pub returns-clause-text : goal.returns-clause-text
+pub returns : goal.returns
 unfolding printed
-returns-clause-text c =
-    let m = machine c.args.state c.args.mem.now in
+returns c =
+    let m = machine c.args.state.now c.args.mem.now in
     let e : written c.put.result ≡ cut (printed c.args.report m) =
     rw (
       c.put.ensures,
       c.put_hexadecimal.ensures,
       c.put_text.ensures,
       c.into.ensures,
-      c.read-outputs.ensures.0,
+      c.read.ensures,
       c.put_block-page-2.ensures,
       c.put_block-page.ensures,
       c.put_report-page.ensures,

@@ -4,7 +4,7 @@ use borrow.Author.Rules.{rules}
 use Rattle.printing.proofs.Prints.{prints}
 use Rattle.printing.proofs.program.rehearse.Goals as goal
 
-pub returns-clause-text : goal.returns-clause-text
-returns-clause-text c =
+pub returns : goal.returns
+returns c =
     let q = c.power_up-start.ensures in
-    c.printed.ensures.text ∙ prints _ _ _ _ _ _ _ c.min.ensures (search rules) q.0 q.1 c.run-end.ensures
+    c.printed.ensures ∙ prints _ _ _ _ _ _ _ c.min.ensures (search rules) q.0 q.1 c.run-end.ensures
