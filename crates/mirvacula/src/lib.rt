@@ -132,7 +132,7 @@ pub extern "C" fn mirvacula_run(
 // Runs a trace as `mirvacula_run` does and scans the outputs of the crate that it leaves. Nothing is done where the report
 // is not of 5 numbers or the scan not of 12.
 #[unsafe(no_mangle)]
-#[tactic(auto, unfolding(crate::specs::Exported::scan_export_of))]
+#[tactic(auto, using(crate::proofs::Refused::scan_told), unfolding(crate::specs::Exported::scan_export_of))]
 pub extern "C" fn mirvacula_scan(
     mem: &mut [u16],
     bytes: &[u8],

@@ -1,5 +1,6 @@
 -- What a run from power-up leaves prints as the program does.
 use Prim.Native.Nat.{ℕ, min}
+use mathlib.Core.Bool.{false}
 use mathlib.Core.List.{List}
 use mathlib.Core.Path.{◌≡◌, ap}
 use borrow.Author.Tests.{eq-eqb}

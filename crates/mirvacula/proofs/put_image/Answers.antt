@@ -1,10 +1,12 @@
 -- `put_image` meets its contract: the loop sets one word a turn (`Swept`).
-use Prim.Native.Nat.{◌+◌, ◌<◌}
+use Prim.Native.Nat.{ℕ, ◌+◌, ◌<◌}
 use native.Mathlib.Omega.{arith}
 use mathlib.Core.Path.{◌≡◌, sym, ap, ◌∙◌}
+use Rattle.std.proofs.Common.{Result}
+use Rattle.std.specs.Result.{result_unwrap_or}
 use Rattle.lists.proofs.Sweep.{swept_all, swept_length, swept_more, swept_none}
 use Rattle.lists.proofs.Tables.{get_d_tabulate, length_tabulate}
-use Rattle.device.specs.declared.answer.Read.{Read}
+use Rattle.device.specs.declared.answer.Refusal.{Refusal}
 use Rattle.reading.specs.Read.{read_of}
 use Rattle.device.specs.State.{machine}
 use Rattle.mirvacula.specs.Exported.{image_of, image_start, image_words}
@@ -20,8 +22,8 @@ loop-k-preserved c =
     let l = c.loop-k in
     let a = c.args in
     let h : l.k < image_words = omega arith in
-    let word : c.read-read.result.word ≡ (read_of (machine a.state a.mem.now) (image_start + l.k)).word =
-    ap (λ (r : Read). r.word) c.read-read.ensures.0 in
+    let word : c.unwrap_or.result ≡ result_unwrap_or (read_of (machine a.state.now a.mem.now) (image_start + l.k)) 0 =
+    c.unwrap_or.ensures ∙ ap (λ (r : Result ℕ Refusal). result_unwrap_or r 0) c.read.ensures in
     swept_more 0 l.invariant (omega (arith, c.requires)) (word ∙ sym (get_d_tabulate image_words _ l.k 0 h))
 
 pub returns : goal.returns

@@ -3,14 +3,14 @@ use native.Mathlib.Omega.{arith}
 use mathlib.Core.Path.{◌≡◌, ◌∙◌}
 use borrow.Author.Rules.{rules}
 use lib.ListN.{length, length-append}
+use Rattle.std.proofs.lemmas.List.{length-map}
 use Rattle.lists.proofs.Sweep.{swept_all, swept_length, swept_more, swept_none}
 use Rattle.mirvacula.proofs.put_scan.Goals as goal
 
 pub loop-k-init : goal.loop-k-init
 loop-k-init c =
-    let levels : length c.args.scan.levels ≡ 6 = search rules in
-    let words : length c.args.scan.words ≡ 6 = search rules in
-    swept_none _ _ (length-append c.args.scan.levels c.args.scan.words ∙ omega (arith, levels, words, c.requires))
+    let six : length c.args.outputs.now ≡ 6 = search rules in
+    swept_none _ _ (simp (length-append, length-map, six) (omega (arith, c.requires)))
 
 pub loop-k-preserved : goal.loop-k-preserved
 loop-k-preserved c =

@@ -18,6 +18,7 @@ returns c =
       c.put_hexadecimal.ensures,
       c.put_text.ensures,
       c.into.ensures,
+      c.unwrap_or-outputs.ensures,
       c.read.ensures,
       c.put_block-page-2.ensures,
       c.put_block-page.ensures,

@@ -6,5 +6,5 @@ use Rattle.printing.proofs.program.rehearse.Goals as goal
 
 pub returns : goal.returns
 returns c =
-    let q = c.power_up-start.ensures in
-    c.printed.ensures ∙ prints _ _ _ _ _ _ _ c.min.ensures (search rules) q.0 q.1 c.run-end.ensures
+    let q = c.power_up-answer.ensures in
+    c.printed.ensures ∙ prints _ _ _ _ _ _ _ _ c.min.ensures (search rules) q.0 q.1 c.run-report.ensures
