@@ -1,26 +1,25 @@
 -- What the functions return of a list of acts is what is to be seen of it, and they leave what the calls of the list leave: by the contracts,
 -- act by act. And every list of acts can be gone through so.
 use Prim.Native.Nat.{ℕ}
-use mathlib.Core.Bool.{true}
+use mathlib.Core.Bool.{Bool, true}
 use mathlib.Core.List.{List, [], ◌∷◌, ◌++◌, append_assoc}
 use mathlib.Core.Path.{◌≡◌, refl, sym, ap, subst, ◌∙◌}
 use borrow.Author.Tests.{eq-eqb}
+use Rattle.std.proofs.Common.{Result, Ok}
 use Rattle.lists.proofs.Tables.{length_tabulate}
 use Rattle.loader.specs.Memory.{is_whole}
-use Rattle.device.specs.declared.answer.Answer.{Answer}
-use Rattle.device.specs.declared.answer.Answer.TheVariants.{Done}
-use Rattle.device.specs.declared.answer.Outcome.{Outcome}
-use Rattle.device.specs.declared.answer.Read.{Read}
-use Rattle.device.specs.Answer.{number_of}
+use Rattle.device.specs.declared.answer.Refusal.{Refusal}
+use Rattle.device.specs.declared.state.Crate.{Crate}
+use Rattle.device.specs.Answer.{Answer, number_of}
 use Rattle.device.specs.State.{Machine, machine, memory0}
-use Rattle.interlocks.specs.declared.scan.Scan.{Scan}
+use Rattle.interlocks.specs.declared.scan.OutputScan.{OutputScan}
 use Rattle.interlocks.specs.Scan.{scan_of}
 use Rattle.reading.specs.Read.{read_of}
 use Rattle.records.specs.Stops.{stop_number}
-use Rattle.registers.specs.Calls.{Call, after, answer, from, machine0, outcome_of, powered, powered_memory, step}
+use Rattle.registers.specs.Calls.{Call, after, answer, from, machine0, powered, powered_memory}
 use Rattle.registers.proofs.Lists.{from_append}
-use Rattle.sheet.proofs.Theorems.{run_is_list}
-use Rattle.trace.specs.Run.{Run, machine_of, run_of}
+use Rattle.sheet.proofs.Theorems.{run_halts, run_is_list}
+use Rattle.trace.specs.Run.{Run, machine_of, progress_of, run, run_of}
 use Rattle.demands.specs.Returned.{Acted, Powered, Rehearsed, Saw, Went}
 use Rattle.demands.specs.Seen.{Act, calling, reading, scanning, tracing, Seen, answered, told, scanned, reported, numbered, callings, calls_by, leaving, list_from, list_of, seen_from, seen_of, showing}
 
@@ -29,21 +28,12 @@ use Rattle.demands.specs.Seen.{Act, calling, reading, scanning, tracing, Seen, a
 -- one act
 pub acted : (m : Machine) (x : Act) (seen : Seen) (n : Machine) → Acted m x seen n → (seen ≡ showing m x) × (n ≡ leaving m x)
 unfolding Acted showing calls_by from
-acted m (calling x) seen n w = (
-  w.5 ∙ ap (answered w.0.answer) w.4 ∙ ap (λ (r : Outcome). answered r.answer (number_of r.answer)) w.3.0,
-  w.6 ∙ (λ i. machine (w.3.0 i).state (w.3.1 i)),
-)
-acted m (reading a) seen n w = (
-  w.5 ∙ ap (told w.0) w.4 ∙ ap (λ (q : Read). told q (number_of q.answer)) w.3.0,
-  w.6 ∙ ap (machine m.state) w.3.1,
-)
-acted m scanning seen n w = (
-  w.5 ∙ ap (scanned w.0) w.4 ∙ ap (λ (q : Scan). scanned q (number_of q.answer)) w.3.0,
-  w.6 ∙ ap (machine m.state) w.3.1,
-)
+acted m (calling x) seen n w = (w.4 ∙ ap (answered w.0) w.3 ∙ ap (λ (a : Answer). answered a (number_of a)) w.2.0, w.2.1)
+acted m (reading a) seen n w = (w.4 ∙ ap (told w.0) w.3 ∙ ap (λ (q : Result ℕ Refusal). told q (number_of q)) w.2, w.5)
+acted m scanning seen n w = (w.4 ∙ ap (scanned w.0) w.3 ∙ ap (λ (q : Result (List OutputScan) Refusal). scanned q (number_of q)) w.2, w.5)
 acted m (tracing t budget) seen n w = (
-  w.5 ∙ ap (reported w.0.report) w.4 ∙ ap (λ (r : Run). numbered r.progress.report) w.3,
-  w.6 ∙ ap machine_of w.3 ∙ run_is_list t budget m,
+  w.6 ∙ ap (reported w.1) w.5 ∙ ap (λ (r : Run). numbered r.progress.report) w.4,
+  w.7 ∙ ap machine_of w.4 ∙ run_is_list t budget m,
 )
 
 -- one after the other
@@ -58,10 +48,10 @@ went m (x ∷ l) seen n w =
     )
 
 -- power-up on a memory of 16,384 words
-powered_up : (memory : List ℕ) → is_whole memory ≡ true → (r : Outcome) (left : List ℕ) → Powered memory r left →
-    (r.answer ≡ Done) × (machine r.state left ≡ machine0)
+powered_up : (memory : List ℕ) → is_whole memory ≡ true → (r : Crate × Answer) (left : List ℕ) → Powered memory r left →
+    (r.1 ≡ Ok tt) × (machine r.0 left ≡ machine0)
 unfolding powered powered_memory
-powered_up memory e r left up = (ap (λ (o : Outcome). o.answer) up.0 ∙ rw e, (λ i. machine (up.0 i).state (up.1 i)) ∙ rw e)
+powered_up memory e r left up = (ap (λ (o : Crate × Answer). o.1) up.0 ∙ rw e, (λ i. machine (up.0 i).0 (up.1 i)) ∙ rw e)
 
 -- from power-up on
 pub saw : (l : List Act) (seen : List Seen) (n : Machine) → Saw l seen n → (seen ≡ seen_of l) × (n ≡ after (list_of l))
@@ -70,9 +60,9 @@ saw l seen n h =
     let up = powered_up h.0 h.1 h.2 h.3 h.6 in
     let on = went _ l h.5 n h.9 in (
       h.8
-          ∙ ap {B = List Seen} (λ (k : ℕ). answered h.2.answer k ∷ h.5) h.7
+          ∙ ap {B = List Seen} (λ (k : ℕ). answered h.2.1 k ∷ h.5) h.7
           ∙ (λ i. answered (up.0 i) (number_of (up.0 i)) ∷ on.0 i)
-          ∙ ap {B = List Seen} (λ (k : Machine). answered Done 0 ∷ seen_from k l) up.1,
+          ∙ ap {B = List Seen} (λ (k : Machine). answered (Ok tt) 0 ∷ seen_from k l) up.1,
       on.1 ∙ ap (λ (k : Machine). from k (list_from k l)) up.1,
     )
 
@@ -84,18 +74,20 @@ rehearsed l n h = (saw l h.0 n h.1).1
 
 act_can : (m : Machine) (x : Act) → Acted m x (showing m x) (leaving m x)
 unfolding Acted showing calls_by from
-act_can m (calling x) = (outcome_of m x, (step m x).memory, number_of (answer m x), (refl, refl), refl, refl, refl)
-act_can m (reading a) = (read_of m a, m.memory, number_of (read_of m a).answer, (refl, refl), refl, refl, refl)
-act_can m scanning = (scan_of m, m.memory, number_of (scan_of m).answer, (refl, refl), refl, refl, refl)
-act_can m (tracing t budget) = (
-  (run_of t budget m).progress,
-  (run_of t budget m).memory,
-  stop_number (run_of t budget m).progress.report.stop,
-  refl,
-  refl,
-  refl,
-  sym (run_is_list t budget m),
-)
+act_can m (calling x) = (answer m x, number_of (answer m x), (refl, refl), refl, refl)
+act_can m (reading a) = (read_of m a, number_of (read_of m a), refl, refl, refl, refl)
+act_can m scanning = (scan_of m, number_of (scan_of m), refl, refl, refl, refl)
+act_can m (tracing t budget) =
+    let r : Run = run_of t budget m in (
+      r.progress.state,
+      r.progress.report,
+      r.memory,
+      stop_number r.progress.report.stop,
+      ap (λ (b : Bool). run (progress_of r.progress.state r.progress.report b) r.memory) (sym (run_halts t budget m)),
+      refl,
+      refl,
+      sym (run_is_list t budget m),
+    )
 
 go_can : (m : Machine) (l : List Act) → Went m l (seen_from m l) (from m (list_from m l))
 unfolding Went from list_from seen_from
@@ -128,10 +120,10 @@ rehearsable l = (
   subst (λ (k : Machine). Went k l (seen_from machine0 l) (from machine0 (list_from machine0 l))) (sym begun) (go_can machine0 l),
 )
   where
-    done : (powered memory0).answer ≡ Done
+    done : (powered memory0).1 ≡ Ok tt
     done = rw whole_start refl
 
-    begun : machine (powered memory0).state (powered_memory memory0) ≡ machine0
+    begun : machine (powered memory0).0 (powered_memory memory0) ≡ machine0
     begun = rw whole_start refl
 
 -- ---- lists of acts, one behind the other

@@ -1,4 +1,4 @@
--- Demand 1: every call answers the first cause whose condition holds, or Done, and leaves what the table says; every record meets the first
+-- Demand 1: every call answers the first cause whose condition holds, or is accepted, and leaves what the table says; every record meets the first
 -- of its checks that holds. By the cases of each call and of each record.
 use Prim.Native.Nat.{ℕ, ◌+◌, ◌-◌}
 use mathlib.Core.Bool.{Bool, true, false, not, ◌&&◌, false≢true, true≢false}
@@ -7,42 +7,41 @@ use mathlib.Core.Path.{◌≡◌, refl, sym, ap, ◌∙◌}
 use borrow.Author.Tests.{eqb-true, eqb-false}
 use lib.Dec.{eqb, ltb}
 use lib.ListN.{length}
+use Rattle.std.proofs.Common.{Ok, Err}
 use Rattle.bools.specs.Pick.{pick}
 use Rattle.bools.proofs.Tests.{cases}
-use Rattle.device.specs.declared.answer.Answer.{Answer}
-use Rattle.device.specs.declared.answer.Answer.TheVariants.{Done, Memory, Address, ReadOnly, Dataset, Full, Level, Length}
-use Rattle.device.specs.declared.answer.Read.{Read}
+use Rattle.device.specs.declared.answer.Refusal.TheVariants.{Memory, Address, ReadOnly, Dataset, Full, Level, Length}
 use Rattle.device.specs.declared.map.Register.{Register}
 use Rattle.device.specs.declared.map.Register.TheVariants.{Nothing, Readout, Other, Control, Mode, Timeout, Key, Enable, Reload, Prepare, Recover, Input, Group, Word}
 use Rattle.device.specs.declared.state.Common.{Common}
-use Rattle.device.specs.Answer.{is_done, number_of}
+use Rattle.device.specs.Answer.{Answer, is_done, number_of}
 use Rattle.device.specs.Map.{decode_of}
 use Rattle.device.specs.State.{Machine, with_state}
 use Rattle.lines.specs.Lines.{bad_levels}
 use Rattle.loader.specs.Loader.{is_beyond, is_full}
 use Rattle.loader.specs.Memory.{dataset_words, is_whole}
 use Rattle.interlocks.specs.Scan.{scan_of}
-use Rattle.reading.specs.Read.{answer_for, read_by, read_of, word_in}
+use Rattle.reading.specs.Read.{answer_for, read_of, with_word, word_in}
 use Rattle.registers.specs.Calls.{Call, tick, write, tag, download, answer, call_answer, called, download_answer, from, left_by_refusal, step}
 use Rattle.tagging.specs.Tag.{command_of, events_on, right_key, tag_answer}
 use Rattle.trace.specs.Run.{run_of}
 use Rattle.writing.specs.Write.{dataset_in, reload_answer, request_answer, triggers, write_answer}
 use Rattle.sheet.proofs.Addresses.{decode_reload, reload_at}
 use Rattle.sheet.proofs.Theorems.{refused, run_halts, run_is_list, run_stops}
-use Rattle.demands.specs.Conditions.{access_at, access_of, cause_of, conditions, conditions_of, first, is_outside, is_read_only, left_by, all_but_tag, not_whole, places_taken, shown_by, tag_asks, work_of, write_asks}
+use Rattle.demands.specs.Conditions.{access_at, access_of, cause_of, conditions, conditions_of, first, giving, is_outside, is_read_only, left_by, all_but_tag, not_whole, places_taken, shown_by, tag_asks, work_of, write_asks}
 use Rattle.demands.specs.Seen.{Act, calling, reading, scanning, tracing, answered, told, calls_by, leaving, showing}
 
 -- ---- a call answers the first cause whose condition holds
 
 -- a request: 4, then 5
 request_first : (asks beyond full : Bool) →
-    pick asks (pick beyond Dataset (pick full Full Done)) Done ≡ pick (asks && beyond) Dataset (pick (asks && full) Full Done)
+    pick asks (pick beyond (Err Dataset) (pick full (Err Full) (Ok tt))) (Ok tt) ≡ pick (asks && beyond) (Err Dataset) (pick (asks && full) (Err Full) (Ok tt))
 request_first true beyond full = refl
 request_first false beyond full = refl
 
 -- a write where no request is made
 plain_first : (cm : Common) (r : Register) (w : ℕ) → (r ≡ Reload → ⊥) →
-    write_answer cm r w ≡ pick (is_outside (access_of r)) Address (pick (is_read_only (access_of r)) ReadOnly Done)
+    write_answer cm r w ≡ pick (is_outside (access_of r)) (Err Address) (pick (is_read_only (access_of r)) (Err ReadOnly) (Ok tt))
 unfolding write_answer
 plain_first cm Nothing w other = refl
 plain_first cm (Readout q) w other = refl
@@ -61,9 +60,9 @@ plain_first cm (Word i) w other = refl
 
 write_first : (m : Machine) (a w : ℕ) →
     write_answer m.state.common (decode_of a) w
-    ≡ pick (is_outside (access_at a)) Address
-    (pick (is_read_only (access_at a)) ReadOnly
-    (pick (write_asks m a w && is_beyond (dataset_in w)) Dataset (pick (write_asks m a w && places_taken m) Full Done)))
+    ≡ pick (is_outside (access_at a)) (Err Address)
+    (pick (is_read_only (access_at a)) (Err ReadOnly)
+    (pick (write_asks m a w && is_beyond (dataset_in w)) (Err Dataset) (pick (write_asks m a w && places_taken m) (Err Full) (Ok tt))))
 unfolding write_answer reload_answer request_answer
 write_first m a w =
     cases (eqb a 0x0A02)
@@ -72,13 +71,13 @@ write_first m a w =
     rw (e, p, decode_reload) (request_first (triggers w m.state.common) (is_beyond (dataset_in w)) (places_taken m)))
     (λ e. rw e (plain_first m.state.common (decode_of a) w (λ q. eqb-false a 0x0A02 e (reload_at a q))))
 
-tag_asks_lem : (on key one : Bool) (x : Answer) → pick on (pick key (pick one x Done) Done) Done ≡ pick (on && (key && one)) x Done
+tag_asks_lem : (on key one : Bool) (x : Answer) → pick on (pick key (pick one x (Ok tt)) (Ok tt)) (Ok tt) ≡ pick (on && (key && one)) x (Ok tt)
 tag_asks_lem true true one x = refl
 tag_asks_lem true false one x = refl
 tag_asks_lem false key one x = refl
 
 tag_first : (m : Machine) (t : ℕ) →
-    tag_answer m.state.common t ≡ pick (tag_asks m t && is_beyond (dataset_in t)) Dataset (pick (tag_asks m t && places_taken m) Full Done)
+    tag_answer m.state.common t ≡ pick (tag_asks m t && is_beyond (dataset_in t)) (Err Dataset) (pick (tag_asks m t && places_taken m) (Err Full) (Ok tt))
 unfolding tag_answer request_answer
 tag_first m t =
     tag_asks_lem (events_on m.state.common) (right_key m.state.common t) (eqb (command_of t) 1) _
@@ -88,13 +87,13 @@ pick_not : {A : Type 0} (b : Bool) (x y : A) → pick b x y ≡ pick (not b) y x
 pick_not true x y = refl
 pick_not false x y = refl
 
-pub answers : (m : Machine) (x : Call) → answer m x ≡ first (conditions m x) Done
+pub answers : (m : Machine) (x : Call) → answer m x ≡ first (conditions m x) (Ok tt)
 unfolding answer conditions call_answer download_answer
-answers m (tick inputs gates) = pick_not (is_whole m.memory) _ Memory
-answers m (write a w) = pick_not (is_whole m.memory) _ Memory ∙ ap (pick (not_whole m) Memory) (write_first m a w)
-answers m (tag t) = pick_not (is_whole m.memory) _ Memory ∙ ap (pick (not_whole m) Memory) (tag_first m t)
+answers m (tick inputs gates) = pick_not (is_whole m.memory) _ (Err Memory)
+answers m (write a w) = pick_not (is_whole m.memory) _ (Err Memory) ∙ ap (pick (not_whole m) (Err Memory)) (write_first m a w)
+answers m (tag t) = pick_not (is_whole m.memory) _ (Err Memory) ∙ ap (pick (not_whole m) (Err Memory)) (tag_first m t)
 answers m (download d words) =
-    pick_not (is_whole m.memory) _ Memory ∙ ap (pick (not_whole m) Memory) (pick_not (eqb (length words) dataset_words) _ Length)
+    pick_not (is_whole m.memory) _ (Err Memory) ∙ ap (pick (not_whole m) (Err Memory)) (pick_not (eqb (length words) dataset_words) _ (Err Length))
 
 -- ---- it leaves what the table says
 
@@ -116,29 +115,23 @@ done_work m x d =
 
 done_left : (m : Machine) (x : Act) (a : Answer) → is_done a ≡ true → work_of m x ≡ left_by m x a
 unfolding left_by
-done_left m x Done d = refl
-done_left m x Memory d = absurd (false≢true d)
-done_left m x Address d = absurd (false≢true d)
-done_left m x ReadOnly d = absurd (false≢true d)
-done_left m x Dataset d = absurd (false≢true d)
-done_left m x Full d = absurd (false≢true d)
-done_left m x Level d = absurd (false≢true d)
-done_left m x Length d = absurd (false≢true d)
+done_left m x (Ok u) d = refl
+done_left m x (Err cause) d = absurd (false≢true d)
 
 -- a refused one leaves all, but for a tag
 all_left : (m : Machine) (x : Act) → all_but_tag m x ≡ m → (a : Answer) → is_done a ≡ false → m ≡ left_by m x a
 unfolding left_by
-all_left m x e Done d = absurd (true≢false d)
-all_left m x e Memory d = refl
-all_left m x e Address d = refl
-all_left m x e ReadOnly d = refl
-all_left m x e Dataset d = sym e
-all_left m x e Full d = sym e
-all_left m x e Level d = refl
-all_left m x e Length d = refl
+all_left m x e (Ok u) d = absurd (true≢false d)
+all_left m x e (Err Memory) d = refl
+all_left m x e (Err Address) d = refl
+all_left m x e (Err ReadOnly) d = refl
+all_left m x e (Err Dataset) d = sym e
+all_left m x e (Err Full) d = sym e
+all_left m x e (Err Level) d = refl
+all_left m x e (Err Length) d = refl
 
-asked_left : (m : Machine) (x : Act) (b c : Bool) → is_done (pick b Dataset (pick c Full Done)) ≡ false →
-    all_but_tag m x ≡ left_by m x (pick b Dataset (pick c Full Done))
+asked_left : (m : Machine) (x : Act) (b c : Bool) → is_done (pick b (Err Dataset) (pick c (Err Full) (Ok tt))) ≡ false →
+    all_but_tag m x ≡ left_by m x (pick b (Err Dataset) (pick c (Err Full) (Ok tt)))
 unfolding left_by
 asked_left m x true c d = refl
 asked_left m x false true d = refl
@@ -151,11 +144,11 @@ refused_left m (write a w) d = all_left m (calling (write a w)) refl (answer m (
 refused_left m (tag t) d =
     cases (is_whole m.memory)
     (λ h.
-    let e : answer m (tag t) ≡ pick (tag_asks m t && is_beyond (dataset_in t)) Dataset (pick (tag_asks m t && places_taken m) Full Done) =
+    let e : answer m (tag t) ≡ pick (tag_asks m t && is_beyond (dataset_in t)) (Err Dataset) (pick (tag_asks m t && places_taken m) (Err Full) (Ok tt)) =
     unfold answer call_answer in rw h (tag_first m t) in
     rw (h, e) (asked_left m (calling (tag t)) (tag_asks m t && is_beyond (dataset_in t)) (tag_asks m t && places_taken m) (rw e at d)))
     (λ h.
-    let e : answer m (tag t) ≡ Memory = unfold answer in rw h refl in
+    let e : answer m (tag t) ≡ Err Memory = unfold answer in rw h refl in
     rw (h, e) (unfold left_by in refl))
 refused_left m (download n words) d = all_left m (calling (download n words)) refl (answer m (download n words)) d
 
@@ -167,31 +160,33 @@ leaves m x =
 
 -- ---- reads, scans and runs too
 
-read_first : (m : Machine) (r : Register) →
-    read_by (answer_for r) (word_in m r)
-    ≡ read_by (pick (is_outside (access_of r)) Address Done) (pick (is_done (pick (is_outside (access_of r)) Address Done)) (word_in m r) 0)
-unfolding word_in
-read_first m Nothing = refl
-read_first m (Readout q) = refl
-read_first m (Other q) = refl
-read_first m Control = refl
-read_first m Mode = refl
-read_first m (Timeout g) = refl
-read_first m Key = refl
-read_first m Enable = refl
-read_first m Reload = refl
-read_first m Prepare = refl
-read_first m Recover = refl
-read_first m (Input n) = refl
-read_first m (Group k) = refl
-read_first m (Word i) = refl
+-- what an accepted read gives has its number
+giving_number : {A : Type 0} (a : Answer) (x : A) → number_of (giving a x) ≡ number_of a
+giving_number (Ok u) x = refl
+giving_number (Err cause) x = refl
+
+read_first : (r : Register) (w : ℕ) → with_word (answer_for r) w ≡ giving (pick (is_outside (access_of r)) (Err Address) (Ok tt)) w
+read_first Nothing w = refl
+read_first (Readout q) w = refl
+read_first (Other q) w = refl
+read_first Control w = refl
+read_first Mode w = refl
+read_first (Timeout g) w = refl
+read_first Key w = refl
+read_first Enable w = refl
+read_first Reload w = refl
+read_first Prepare w = refl
+read_first Recover w = refl
+read_first (Input n) w = refl
+read_first (Group k) w = refl
+read_first (Word i) w = refl
 
 pub shown : (m : Machine) (x : Act) → showing m x ≡ shown_by m x (cause_of m x)
 unfolding showing shown_by conditions_of read_of scan_of run_of
 shown m (calling x) = ap (λ (a : Answer). answered a (number_of a)) (answers m x)
 shown m (reading a) =
     cases (is_whole m.memory)
-    (λ h. rw h (ap (λ (q : Read). told q (number_of q.answer)) (read_first m (decode_of a))))
+    (λ h. rw (h, read_first (decode_of a) (word_in m (decode_of a))) (ap (told _) (giving_number (cause_of m (reading a)) _)))
     (λ h. rw h refl)
 shown m scanning = cases (is_whole m.memory) (λ h. rw h refl) (λ h. rw h refl)
 shown m (tracing t budget) = cases (is_whole m.memory) (λ h. rw h refl) (λ h. rw h refl)

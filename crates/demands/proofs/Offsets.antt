@@ -8,33 +8,30 @@ use mathlib.Core.Path.{◌≡◌, refl, sym, ap, ◌∙◌}
 use borrow.Author.Tests.{eqb-true}
 use lib.Dec.{eqb, ltb}
 use lib.ListN.{length}
+use Rattle.std.proofs.Common.{Ok, Err}
 use Rattle.bools.proofs.Tests.{cases, pick_elim}
 use Rattle.device.specs.State.{Machine}
 use Rattle.lines.specs.Lines.{bad_levels}
 use Rattle.loader.specs.Memory.{is_whole}
-use Rattle.records.specs.declared.Record.{Record}
-use Rattle.records.specs.declared.Record.TheVariants.{AtEnd, Malformed, Ticks, Write, Tag}
+use Rattle.records.specs.declared.Record.TheVariants.{Ticks, Write, Tag}
 use Rattle.records.specs.declared.Stop.{Stop}
-use Rattle.records.specs.declared.Stop.TheVariants.{UnknownTag, WrongLength, Cut, NoRepeat, Spent}
-use Rattle.records.specs.Records.{header_bytes, is_known, length_at, next_at, number_at, payload_at, payload_bytes, record_at, repeat_bytes, tag_at, ticks_at}
+use Rattle.records.specs.declared.Stop.TheVariants.{End, UnknownTag, WrongLength, Cut, NoRepeat, Spent}
+use Rattle.records.specs.Records.{Found, header_bytes, is_known, length_at, levels_at, next_at, number_at, payload_at, payload_bytes, record_at, repeat_bytes, tag_at, ticks_at}
 use Rattle.registers.specs.Calls.{Call, tick}
 use Rattle.trace.specs.Passed.{passed_from, passed_in}
 use Rattle.trace.specs.Run.{Run, begun, by_record, call_in, once_of, one, passes, repeated, run_from, run_of, stops_by, ticks_in}
 use Rattle.trace.proofs.Halts.{turn}
 use Rattle.trace.proofs.Listed.{halted_stays}
-use Rattle.demands.specs.Conditions.{bytes_in, bytes_of, gates_in, inputs_in, repeat_in}
+use Rattle.demands.specs.Conditions.{bytes_in, bytes_of, repeat_in}
 
 -- ---- a record that stands whole has the length of its kind
 
-abbrev is_record : Record → Bool
-is_record AtEnd = false
-is_record (Malformed stop) = false
-is_record (Ticks n inputs gates) = true
-is_record (Write a w) = true
-is_record (Tag e) = true
+abbrev is_record : Found → Bool
+is_record (Err stop) = false
+is_record (Ok x) = true
 
 module _ (t : List ℕ) (at : ℕ) where
-  takes : (x : Record) → record_at t at ≡ x → (is_record x ≡ true → header_bytes + length_at t at ≡ bytes_of x) →
+  takes : (x : Found) → record_at t at ≡ x → (is_record x ≡ true → header_bytes + length_at t at ≡ bytes_of x) →
       is_record (record_at t at) ≡ true → header_bytes + length_at t at ≡ bytes_of (record_at t at)
   takes x p q h = q (sym (ap is_record p) ∙ h) ∙ ap bytes_of (sym p)
 
@@ -47,20 +44,20 @@ module _ (t : List ℕ) (at : ℕ) where
   record_bytes_lem : is_record (record_at t at) ≡ true → header_bytes + length_at t at ≡ bytes_of (record_at t at)
   unfolding record_at payload_at ticks_at
   record_bytes_lem =
-      cases (eqb (length t - at) 0) (λ a. takes AtEnd (rw a refl) bad) (λ a.
-      cases (ltb (length t - at) header_bytes) (λ b. takes (Malformed Cut) (rw (a, b) refl) bad) (λ b.
+      cases (eqb (length t - at) 0) (λ a. takes (Err End) (rw a refl) bad) (λ a.
+      cases (ltb (length t - at) header_bytes) (λ b. takes (Err Cut) (rw (a, b) refl) bad) (λ b.
       cases (is_known (tag_at t at)) (λ c.
       cases (eqb (length_at t at) (payload_bytes (tag_at t at))) (λ d.
-      cases (ltb (length t - at) (header_bytes + length_at t at)) (λ e. takes (Malformed Cut) (rw (a, b, c, d, e) refl) bad) (λ e.
+      cases (ltb (length t - at) (header_bytes + length_at t at)) (λ e. takes (Err Cut) (rw (a, b, c, d, e) refl) bad) (λ e.
       cases (eqb (tag_at t at) 1) (λ f.
-      cases (eqb (repeat_in t at) 0) (λ g. takes (Malformed NoRepeat) (rw (a, b, c, d, e, f, g) refl) bad)
-      (λ g. takes (Ticks (repeat_in t at) (inputs_in t at) (gates_in t at)) (rw (a, b, c, d, e, f, g) refl) (λ h. long 11 d (rw f refl))))
+      cases (eqb (repeat_in t at) 0) (λ g. takes (Err NoRepeat) (rw (a, b, c, d, e, f, g) refl) bad)
+      (λ g. takes (Ok (Ticks (repeat_in t at) (levels_at t (at + header_bytes + repeat_bytes)))) (rw (a, b, c, d, e, f, g) refl) (λ h. long 11 d (rw f refl))))
       (λ f.
       cases (eqb (tag_at t at) 2)
-      (λ g. takes (Write (number_at t (at + header_bytes) 2) (number_at t (at + header_bytes + 2) 2)) (rw (a, b, c, d, e, f, g) refl) (λ h. long 4 d (rw f refl)))
-      (λ g. takes (Tag (number_at t (at + header_bytes) 4)) (rw (a, b, c, d, e, f, g) refl) (λ h. long 4 d (rw f refl))))))
-      (λ d. takes (Malformed WrongLength) (rw (a, b, c, d) refl) bad))
-      (λ c. takes (Malformed UnknownTag) (rw (a, b, c) refl) bad)))
+      (λ g. takes (Ok (Write (number_at t (at + header_bytes) 2) (number_at t (at + header_bytes + 2) 2))) (rw (a, b, c, d, e, f, g) refl) (λ h. long 4 d (rw f refl)))
+      (λ g. takes (Ok (Tag (number_at t (at + header_bytes) 4))) (rw (a, b, c, d, e, f, g) refl) (λ h. long 4 d (rw f refl))))))
+      (λ d. takes (Err WrongLength) (rw (a, b, c, d) refl) bad))
+      (λ c. takes (Err UnknownTag) (rw (a, b, c) refl) bad)))
 
 -- ---- what one record makes of the offset
 
@@ -78,17 +75,16 @@ module _ (t : List ℕ) (budget : ℕ) where
   unfolding passes next_at
   pass_moved r n e calls ticks b = record { on = λ g. omega (arith, e); off = λ g. absurd (true≢false g) }
 
-  record_moved : (r : Run) (x : Record) → (is_record x ≡ true → header_bytes + length_at t r.progress.report.next ≡ bytes_of x) →
+  record_moved : (r : Run) (x : Found) → (is_record x ≡ true → header_bytes + length_at t r.progress.report.next ≡ bytes_of x) →
       Moved (bytes_of x) r (by_record t budget x r)
   unfolding by_record call_in ticks_in
-  record_moved r AtEnd h = stop_moved _ r _
-  record_moved r (Malformed stop) h = stop_moved _ r stop
-  record_moved r (Ticks n inputs gates) h =
-      pick_elim (Moved 14 r) (bad_levels inputs gates) (λ e. pass_moved r 14 (h refl) (one (tick inputs gates)) 0 true)
+  record_moved r (Err stop) h = stop_moved _ r stop
+  record_moved r (Ok (Ticks n levels)) h =
+      pick_elim (Moved 14 r) (bad_levels levels.inputs levels.gates) (λ e. pass_moved r 14 (h refl) (one (tick levels.inputs levels.gates)) 0 true)
       (λ e. pick_elim (Moved 14 r) (ltb (budget - r.progress.report.ticks) n) (λ e. stop_moved 14 r Spent)
-      (λ e. pass_moved r 14 (h refl) (repeated n (tick inputs gates)) n false))
-  record_moved r (Write a w) h = pass_moved r 7 (h refl) _ 0 _
-  record_moved r (Tag e) h = pass_moved r 7 (h refl) _ 0 _
+      (λ e. pass_moved r 14 (h refl) (repeated n (tick levels.inputs levels.gates)) n false))
+  record_moved r (Ok (Write a w)) h = pass_moved r 7 (h refl) _ 0 _
+  record_moved r (Ok (Tag e)) h = pass_moved r 7 (h refl) _ 0 _
 
   once_moved : (r : Run) → Moved (bytes_of (record_at t r.progress.report.next)) r (once_of t budget r)
   unfolding once_of

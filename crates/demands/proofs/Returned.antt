@@ -3,23 +3,22 @@
 use Prim.Native.Nat.{ℕ, suc, ◌+◌, ◌*◌, ◌/◌, ◌≤◌, ◌<◌}
 use mathlib.Core.Bool.{Bool, true, false}
 use mathlib.Core.List.{List, [], ◌∷◌, ◌++◌}
-use mathlib.Core.Option.{some}
 use mathlib.Core.Path.{◌≡◌, refl, sym, ap, subst, ◌∙◌}
 use borrow.Author.Tests.{eq-eqb}
 use lib.ListN.{get_or, length}
-use Rattle.words.specs.Word.{bit, bit_of}
+use Rattle.std.proofs.Common.{Result, Ok, Some}
+use Rattle.words.specs.Word.{bit}
 use Rattle.loader.specs.declared.loader.Request.{Request}
 use Rattle.loader.specs.Memory.{is_whole}
-use Rattle.device.specs.declared.answer.Answer.TheVariants.{Done}
-use Rattle.device.specs.declared.answer.Outcome.{Outcome}
-use Rattle.device.specs.declared.answer.Read.{Read}
-use Rattle.device.specs.Answer.{is_done, number_of}
+use Rattle.device.specs.declared.answer.Refusal.{Refusal}
+use Rattle.device.specs.declared.state.Crate.{Crate}
+use Rattle.device.specs.Answer.{Answer, is_done, number_of}
 use Rattle.device.specs.Map.{decode_of, kept}
 use Rattle.device.specs.State.{Machine, machine}
-use Rattle.interlocks.specs.declared.scan.Scan.{Scan}
+use Rattle.interlocks.specs.declared.scan.OutputScan.{OutputScan}
 use Rattle.interlocks.specs.Interlock.{trips}
 use Rattle.interlocks.specs.Scan.{scan_of}
-use Rattle.reading.specs.Read.{low_first, read_by, read_of}
+use Rattle.reading.specs.Read.{low_first, read_of, word_shown}
 use Rattle.records.specs.Stops.{stop_number}
 use Rattle.registers.specs.Calls.{Call, write, accepted_ticks, after, answer, from, left_by_refusal, machine0, refusals, step}
 use Rattle.registers.proofs.Lists.{from_append}
@@ -29,6 +28,7 @@ use Rattle.sheet.specs.OwnPart.{Cut, Part, own_part, own_part_of}
 use Rattle.sheet.specs.Raw.{levels_of, raw_count}
 use Rattle.sheet.specs.Reachable.{OfWords, Reached}
 use Rattle.sheet.specs.Requests.{Stands, finished, request_made, stand_after, waits}
+use Rattle.sheet.specs.Scans.{scan_at}
 use Rattle.sheet.specs.Settled.{SettledCut, settled, settled_part_of}
 use Rattle.sheet.specs.Sheet.{sheet_after, sheet_shows}
 use Rattle.sheet.specs.Shows.{shows}
@@ -36,18 +36,13 @@ use Rattle.sheet.proofs.Finishes.{full_after}
 use Rattle.sheet.proofs.Isolation.{holds_begin}
 use Rattle.sheet.proofs.Theorems.{alike, alike_cut, alike_settled, alike_settled_cut, finishes, isolation_each, isolation_within, raw_alike, raw_reads, reachable, read_back, read_other, refused, run_halts, run_records, run_refusals, run_sound, run_stops, run_ticks, scan_ends, scan_least, scan_level, scan_whole, stands}
 use Rattle.sheet.proofs.Kept.{holds_all}
-use Rattle.trace.specs.declared.Progress.{Progress}
 use Rattle.trace.specs.declared.Report.{Report}
 use Rattle.trace.specs.Passed.{calls_in, passed_in}
-use Rattle.trace.specs.Run.{Run, once_of, run, run_of}
+use Rattle.trace.specs.Run.{Run, once_of, progress_of, run, run_of}
 use Rattle.trace.specs.Sound.{Sound}
 use Rattle.demands.specs.Returned.{Looked, Ran, Rehearsed, Returned, Saw, Scanned}
 use Rattle.demands.specs.Seen.{Act, reading, tracing, Seen, told, reported, calls_by, leaving, list_from, list_of, numbered, seen_from, seen_of, showing}
 use Rattle.demands.proofs.Acts.{list_append, rehearsed, saw}
-
--- one call
-stepped : (m : Machine) (x : Call) (r : Outcome) (memory : List ℕ) → Returned m x r memory → machine r.state memory ≡ step m x
-stepped m x r memory back i = machine (back.0 i).state (back.1 i)
 
 -- ---- the theorems, of the code
 
@@ -74,7 +69,7 @@ module _ (l : List Act) (n : Machine) (h : Rehearsed l n) where
 
   -- of the calls that the functions made, by themselves or as records of runs: a request that one of them makes stands in the crate where
   -- `stand_after` says, and that is `finished` in time
-  module _ (l₁ : List Call) (x : Call) (l₂ : List Call) (cut : list_of l ≡ l₁ ++ (x ∷ l₂)) (q : Request) (made : request_made (after l₁) x ≡ some q) where
+  module _ (l₁ : List Call) (x : Call) (l₂ : List Call) (cut : list_of l ≡ l₁ ++ (x ∷ l₂)) (q : Request) (made : request_made (after l₁) x ≡ Some q) where
     pub code_stands : Stands n.state.common q (stand_after (step (after l₁) x) l₂ (waits (after l₁).state.common.queue.waiting))
     unfolding after from
     code_stands =
@@ -87,44 +82,42 @@ module _ (l : List Act) (n : Machine) (h : Rehearsed l n) where
     code_finishes = finishes l₁ x q made l₂
 
   -- what a read after the list returns
-  pub code_read : (a : ℕ) (q : Read) (memory : List ℕ) → Looked n a q memory → q ≡ read_of (after (list_of l)) a
-  code_read a q memory look = look.0 ∙ ap (λ (k : Machine). read_of k a) (rehearsed l n h)
+  pub code_read : (a : ℕ) (q : Result ℕ Refusal) → Looked n a q → q ≡ read_of (after (list_of l)) a
+  code_read a q look = look ∙ ap (λ (k : Machine). read_of k a) (rehearsed l n h)
 
   -- a read of a raw count
-  pub code_raw_reads : (j : ℕ) → j < 108 → (q : Read) (memory : List ℕ) → Looked n (0x1300 + j) q memory →
-      q ≡ read_by Done (low_first j (raw_count (j / 2) (list_of l)))
-  code_raw_reads j b q memory look = code_read (0x1300 + j) q memory look ∙ raw_reads j b (list_of l)
+  pub code_raw_reads : (j : ℕ) → j < 108 → (q : Result ℕ Refusal) → Looked n (0x1300 + j) q → q ≡ Ok (low_first j (raw_count (j / 2) (list_of l)))
+  code_raw_reads j b q look = code_read (0x1300 + j) q look ∙ raw_reads j b (list_of l)
 
   -- what a scan after the list returns
-  pub code_scan : (q : Scan) (memory : List ℕ) → Scanned n q memory → q ≡ scan_of (after (list_of l))
-  code_scan q memory scan = scan.0 ∙ ap scan_of (rehearsed l n h)
+  pub code_scan : (q : Result (List OutputScan) Refusal) → Scanned n q → q ≡ scan_of (after (list_of l))
+  code_scan q scan = scan ∙ ap scan_of (rehearsed l n h)
 
   -- and the words that it read make an output 0 where its level is 0
-  pub code_scan_ends : (q : Scan) (memory : List ℕ) → Scanned n q memory → (o : ℕ) → o < 6 → get_or q.levels o 0 ≡ 0 →
-      trips n.state o (get_or q.words o 0) ≡ true
-  code_scan_ends q memory scan o b low =
+  pub code_scan_ends : (q : Result (List OutputScan) Refusal) → Scanned n q → (o : ℕ) → o < 6 → (scan_at q o).level ≡ false →
+      trips n.state o (scan_at q o).words ≡ true
+  code_scan_ends q scan o b =
       let whole : is_whole n.memory ≡ true = ap (λ (k : Machine). is_whole k.memory) (rehearsed l n h) ∙ eq-eqb _ _ (full_after (list_of l)) in
-      subst (λ (r : Scan). trips n.state o (get_or r.words o 0) ≡ true) (sym scan.0)
-      (scan_ends n o b whole (sym (ap (λ (r : Scan). get_or r.levels o 0) scan.0) ∙ low))
+      rw scan (scan_ends n o b whole)
 
   -- a write that `write` accepted, and a read after it
-  pub code_read_back : (a w : ℕ) (r : Outcome) (memory : List ℕ) → Returned n (write a w) r memory → r.answer ≡ Done →
-      (q : Read) (left : List ℕ) → Looked (machine r.state memory) a q left → q ≡ read_by Done (kept (decode_of a) w)
-  code_read_back a w r memory back e q left look =
-      look.0
-      ∙ ap (λ (k : Machine). read_of k a) (stepped n (write a w) r memory back)
-      ∙ subst (λ (k : Machine). answer k (write a w) ≡ Done → read_of (step k (write a w)) a ≡ read_by Done (kept (decode_of a) w))
-      (sym (rehearsed l n h)) (read_back (list_of l) a w) (sym (ap (λ (o : Outcome). o.answer) back.0) ∙ e)
+  pub code_read_back : (a w : ℕ) (given : Answer) (k : Machine) → Returned n (write a w) given k → given ≡ Ok tt →
+      (q : Result ℕ Refusal) → Looked k a q → q ≡ Ok (kept (decode_of a) w)
+  code_read_back a w given k back e q look =
+      look
+      ∙ ap (λ (j : Machine). read_of j a) back.1
+      ∙ subst (λ (j : Machine). answer j (write a w) ≡ Ok tt → read_of (step j (write a w)) a ≡ Ok (kept (decode_of a) w))
+      (sym (rehearsed l n h)) (read_back (list_of l) a w) (sym back.0 ∙ e)
 
   -- two reads of another register, before a write and after it
   pub code_read_other : (a w b : ℕ) → (a ≡ b → ⊥) → follows (decode_of a) (decode_of b) ≡ false →
-      (p : Read) (kept : List ℕ) → Looked n b p kept → (r : Outcome) (memory : List ℕ) → Returned n (write a w) r memory →
-      (q : Read) (left : List ℕ) → Looked (machine r.state memory) b q left → q ≡ p
-  code_read_other a w b d f p kept before r memory back q left look =
-      look.0
-      ∙ ap (λ (k : Machine). read_of k b) (stepped n (write a w) r memory back)
-      ∙ subst (λ (k : Machine). read_of (step k (write a w)) b ≡ read_of k b) (sym (rehearsed l n h)) (read_other (list_of l) a w b d f)
-      ∙ sym before.0
+      (p : Result ℕ Refusal) → Looked n b p → (given : Answer) (k : Machine) → Returned n (write a w) given k →
+      (q : Result ℕ Refusal) → Looked k b q → q ≡ p
+  code_read_other a w b d f p before given k back q look =
+      look
+      ∙ ap (λ (j : Machine). read_of j b) back.1
+      ∙ subst (λ (j : Machine). read_of (step j (write a w)) b ≡ read_of j b) (sym (rehearsed l n h)) (read_other (list_of l) a w b d f)
+      ∙ sym before
 
 -- two rehearsals with the same own part for c: c shows the same
 pub code_alike : (c : ℕ) → c < 128 → (l m : List Act) (n k : Machine) → Rehearsed l n → Rehearsed m k →
@@ -155,9 +148,9 @@ code_alike_within c b l m e l₁ l₂ w =
 -- two rehearsals in whose accepted ticks an input has the same levels: its raw count reads alike
 pub code_raw_alike : (j : ℕ) → j < 108 → (l m : List Act) (n k : Machine) → Rehearsed l n → Rehearsed m k →
     levels_of (j / 2) (list_of l) ≡ levels_of (j / 2) (list_of m) →
-    (p q : Read) (left kept : List ℕ) → Looked n (0x1300 + j) p left → Looked k (0x1300 + j) q kept → p ≡ q
-code_raw_alike j b l m n k h g e p q left kept look again =
-    code_read l n h (0x1300 + j) p left look ∙ raw_alike j b (list_of l) (list_of m) e ∙ sym (code_read m k g (0x1300 + j) q kept again)
+    (p q : Result ℕ Refusal) → Looked n (0x1300 + j) p → Looked k (0x1300 + j) q → p ≡ q
+code_raw_alike j b l m n k h g e p q look again =
+    code_read l n h (0x1300 + j) p look ∙ raw_alike j b (list_of l) (list_of m) e ∙ sym (code_read m k g (0x1300 + j) q again)
 
 -- two rehearsals with the same settled part for c, shared registers written for neighbours as they please: c shows the same
 pub code_alike_settled : (c : ℕ) → c < 128 → (l m : List Act) (n k : Machine) → Rehearsed l n → Rehearsed m k →
@@ -185,52 +178,46 @@ code_alike_settled_cut c b l m l₂ m₂ n k h g e =
     ∙ sym (ap (shows c) (rehearsed m k g))
 
 -- a refused call leaves what the table says, for every crate and memory
-pub code_refused : (m : Machine) (x : Call) (r : Outcome) (memory : List ℕ) → Returned m x r memory → is_done r.answer ≡ false →
-    machine r.state memory ≡ left_by_refusal m x
-code_refused m x r memory back e =
-    stepped m x r memory back ∙ refused m x (sym (ap (λ (o : Outcome). is_done o.answer) back.0) ∙ e)
+pub code_refused : (m : Machine) (x : Call) (a : Answer) (n : Machine) → Returned m x a n → is_done a ≡ false → n ≡ left_by_refusal m x
+code_refused m x a n back e = back.1 ∙ refused m x (sym (ap is_done back.0) ∙ e)
 
 -- the levels of a scan are the bits of a read of 0x0719, for every crate and memory
-pub code_scan_level : (m : Machine) (q : Scan) (memory : List ℕ) → Scanned m q memory → (p : Read) (left : List ℕ) → Looked m 0x0719 p left →
-    (o : ℕ) → o < 6 → get_or q.levels o 0 ≡ bit_of (bit p.word o)
-code_scan_level m q memory scan p left look o b =
-    ap (λ (r : Scan). get_or r.levels o 0) scan.0 ∙ scan_level m o b ∙ sym (ap (λ (r : Read). bit_of (bit r.word o)) look.0)
+pub code_scan_level : (m : Machine) (q : Result (List OutputScan) Refusal) → Scanned m q → (p : Result ℕ Refusal) → Looked m 0x0719 p →
+    (o : ℕ) → o < 6 → (scan_at q o).level ≡ bit (word_shown p) o
+code_scan_level m q scan p look o b = rw (scan, look) (scan_level m o b)
 
 -- and no fewer of the first words than a scan read make an output 0
-pub code_scan_least : (m : Machine) (q : Scan) (memory : List ℕ) → Scanned m q memory → (o : ℕ) → o < 6 →
-    (w : ℕ) → w < get_or q.words o 0 → trips m.state o w ≡ false
-code_scan_least m q memory scan o b w l =
-    scan_least m o b w (subst (λ (r : Scan). w < get_or r.words o 0) scan.0 l)
+pub code_scan_least : (m : Machine) (q : Result (List OutputScan) Refusal) → Scanned m q → (o : ℕ) → o < 6 →
+    (w : ℕ) → w < (scan_at q o).words → trips m.state o w ≡ false
+code_scan_least m q scan o b = rw scan (scan_least m o b)
 
 -- and all are read where its level is 1
-pub code_scan_whole : (m : Machine) (q : Scan) (memory : List ℕ) → Scanned m q memory → (o : ℕ) → o < 6 → get_or q.levels o 0 ≡ 1 →
-    get_or q.words o 0 ≡ 22
-code_scan_whole m q memory scan o b high =
-    ap (λ (r : Scan). get_or r.words o 0) scan.0
-    ∙ scan_whole m o b (sym (ap (λ (r : Scan). get_or r.levels o 0) scan.0) ∙ high)
+pub code_scan_whole : (m : Machine) (q : Result (List OutputScan) Refusal) → Scanned m q → (o : ℕ) → o < 6 → (scan_at q o).level ≡ true →
+    (scan_at q o).words ≡ 22
+code_scan_whole m q scan o b = rw scan (scan_whole m o b)
 
--- a run hands back a report that has stopped, with the counts over the calls of the records that it passed, for every crate and memory
-module _ (m : Machine) (t : List ℕ) (budget : ℕ) (p : Progress) (memory : List ℕ) (ran : Ran m t budget p memory) where
+-- a run hands back the report of one that has stopped, with the counts over the calls of the records that it passed, for every crate and memory
+module _ (m : Machine) (t : List ℕ) (budget : ℕ) (s : Crate) (report : Report) (memory : List ℕ) (ran : Ran m t budget s report memory) where
   abbrev calls : List Call
   calls = calls_in (passed_in t budget m)
 
-  pub code_run_halts : p.going ≡ false
-  code_run_halts = ap (λ (r : Run). r.progress.going) (ran) ∙ run_halts t budget m
+  pub code_run_halts : (run_of t budget m).progress.going ≡ false
+  code_run_halts = ap (λ (r : Run). r.progress.going) (sym ran)
 
-  pub code_run_stops : is_whole m.memory ≡ true → once_of t budget (run p memory) ≡ run p memory
-  code_run_stops e = subst (λ (r : Run). once_of t budget r ≡ r) (sym (ran)) (run_stops t budget m e)
+  pub code_run_stops : is_whole m.memory ≡ true → once_of t budget (run (progress_of s report false) memory) ≡ run (progress_of s report false) memory
+  code_run_stops e = subst (λ (r : Run). once_of t budget r ≡ r) (sym ran) (run_stops t budget m e)
 
-  pub code_run_sound : Sound t budget p.report
-  code_run_sound = subst (λ (r : Run). Sound t budget r.progress.report) (sym (ran)) (run_sound t budget m)
+  pub code_run_sound : Sound t budget report
+  code_run_sound = subst (λ (r : Run). Sound t budget r.progress.report) (sym ran) (run_sound t budget m)
 
-  pub code_run_records : p.report.records ≡ length (passed_in t budget m)
-  code_run_records = ap (λ (r : Run). r.progress.report.records) (ran) ∙ run_records t budget m
+  pub code_run_records : report.records ≡ length (passed_in t budget m)
+  code_run_records = ap (λ (r : Run). r.progress.report.records) ran ∙ run_records t budget m
 
-  pub code_run_ticks : p.report.ticks ≡ accepted_ticks calls
-  code_run_ticks = ap (λ (r : Run). r.progress.report.ticks) (ran) ∙ run_ticks t budget m
+  pub code_run_ticks : report.ticks ≡ accepted_ticks calls
+  code_run_ticks = ap (λ (r : Run). r.progress.report.ticks) ran ∙ run_ticks t budget m
 
-  pub code_run_refusals : p.report.refused ≡ refusals m calls
-  code_run_refusals = ap (λ (r : Run). r.progress.report.refused) (ran) ∙ run_refusals t budget m
+  pub code_run_refusals : report.refused ≡ refusals m calls
+  code_run_refusals = ap (λ (r : Run). r.progress.report.refused) ran ∙ run_refusals t budget m
 
 -- ---- a run within a list: what it reported
 
@@ -250,7 +237,7 @@ unfolding seen_of after list_of
 seen_behind l x more seen n h d = ap (λ (s : List Seen). get_or s (suc (length l)) d) (saw _ seen n h).0 ∙ seen_at machine0 l x more d
 
 pub seen_read : (l : List Act) (a : ℕ) (more : List Act) (seen : List Seen) (n : Machine) → Saw (l ++ (reading a ∷ more)) seen n → (d : Seen) →
-    get_or seen (suc (length l)) d ≡ told (read_of (after (list_of l)) a) (number_of (read_of (after (list_of l)) a).answer)
+    get_or seen (suc (length l)) d ≡ told (read_of (after (list_of l)) a) (number_of (read_of (after (list_of l)) a))
 unfolding showing
 seen_read l a more seen n h d = seen_behind l (reading a) more seen n h d
 

@@ -1,20 +1,19 @@
 -- The three demands, a page each, of what the library's functions return: full statements, a line or two of plain words each, proved by citing
 -- the file that does the work. What is asked of the functions (`Acted`, `Saw`, `Rehearsed`) is their contracts and no more (Contracts.antt).
 use Prim.Native.Nat.{ℕ, suc, ◌+◌, ◌-◌, ◌*◌, ◌/◌, ◌<◌, ◌≤◌}
-use mathlib.Core.Bool.{true}
+use mathlib.Core.Bool.{true, false}
 use mathlib.Core.List.{List, [], ◌∷◌, ◌++◌}
-use mathlib.Core.Option.{some}
 use mathlib.Core.Path.{◌≡◌, refl, sym, ap, subst, ◌∙◌}
 use borrow.Author.Tests.{eq-eqb}
 use lib.ListN.{get_or, length}
+use Rattle.std.proofs.Common.{Result, Ok, Some}
 use Rattle.bools.specs.Pick.{pick}
 use Rattle.bools.proofs.Tests.{cases}
 use Rattle.loader.specs.declared.loader.Request.{Request}
 use Rattle.loader.specs.Memory.{is_whole}
-use Rattle.device.specs.declared.answer.Answer.TheVariants.{Done}
-use Rattle.device.specs.declared.answer.Outcome.{Outcome}
-use Rattle.device.specs.declared.answer.Read.{Read}
-use Rattle.device.specs.Answer.{number_of}
+use Rattle.device.specs.declared.answer.Refusal.{Refusal}
+use Rattle.device.specs.declared.state.Crate.{Crate}
+use Rattle.device.specs.Answer.{Answer, number_of}
 use Rattle.device.specs.State.{Machine, memory0, power_up}
 use Rattle.reading.specs.Read.{read_of}
 use Rattle.records.specs.Stops.{stop_number}
@@ -29,10 +28,9 @@ use Rattle.sheet.specs.Sheet.{sheet_after, sheet_shows}
 use Rattle.sheet.specs.Shows.{shows}
 use Rattle.sheet.proofs.Finishes.{full_after}
 use Rattle.sheet.proofs.Theorems.{run_records, run_refusals, run_sound, run_ticks}
-use Rattle.trace.specs.declared.Progress.{Progress}
 use Rattle.trace.specs.declared.Report.{Report}
 use Rattle.trace.specs.Passed.{calls_in, passed_in}
-use Rattle.trace.specs.Run.{Run, begun, once_of, run, run_of}
+use Rattle.trace.specs.Run.{Run, begun, once_of, progress_of, run, run_of}
 use Rattle.trace.specs.Sound.{Sound}
 use Rattle.demands.specs.Conditions.{Goes, bytes_in, cause_of, fate_of, first, gone_by, left_by, power_up_conditions, shown_by, stopped}
 use Rattle.demands.specs.Returned.{Acted, Looked, Numbered, Powered, Ran, Rehearsed, Saw}
@@ -47,18 +45,18 @@ use Rattle.demands.proofs.Returned as returning
 -- crate and threshold memory keep what the table says." That every function ends is part of its contract.
 
 -- On every crate and memory, reached or not: a call, a read, a scan or a run shows and leaves what the table says for the first of its
--- conditions that holds (`cause_of`), and where none holds it is Done and does its work.
+-- conditions that holds (`cause_of`), and where none holds it is accepted and does its work.
 pub ends : (m : Machine) (x : Act) (seen : Seen) (n : Machine) → Acted m x seen n →
     (seen ≡ shown_by m x (cause_of m x)) × (n ≡ left_by m x (cause_of m x))
 ends m x seen n w = ((acting.acted m x seen n w).0 ∙ ending.shown m x, (acting.acted m x seen n w).1 ∙ ending.left m x)
 
 -- Power-up clears a memory of 16,384 words; refused 1 it returns the number with a power-up crate, and leaves the memory.
-pub power_up_ends : (memory : List ℕ) (r : Outcome) (left : List ℕ) (k : ℕ) → Powered memory r left → Numbered r.answer k →
-    (k ≡ number_of (first (power_up_conditions memory) Done)) × (r.state ≡ power_up) × (left ≡ pick (is_whole memory) memory0 memory)
+pub power_up_ends : (memory : List ℕ) (r : Crate × Answer) (left : List ℕ) (k : ℕ) → Powered memory r left → Numbered r.1 k →
+    (k ≡ number_of (first (power_up_conditions memory) (Ok tt))) × (r.0 ≡ power_up) × (left ≡ pick (is_whole memory) memory0 memory)
 unfolding powered powered_memory
 power_up_ends memory r left k up number = (
-  number ∙ ap (λ (o : Outcome). number_of o.answer) up.0 ∙ cases (is_whole memory) (λ e. rw e refl) (λ e. rw e refl),
-  ap (λ (o : Outcome). o.state) up.0,
+  number ∙ ap (λ (o : Crate × Answer). number_of o.1) up.0 ∙ cases (is_whole memory) (λ e. rw e refl) (λ e. rw e refl),
+  ap (λ (o : Crate × Answer). o.0) up.0,
   up.1,
 )
 
@@ -69,14 +67,14 @@ pub record_ends : (t : List ℕ) (budget : ℕ) (r : Run) →
 record_ends = passing.once
 
 -- So a run is its records one after the other from its beginning, each by its fate, to the one that stops it: none is skipped.
-pub run_goes : (m : Machine) → is_whole m.memory ≡ true → (t : List ℕ) (budget : ℕ) (p : Progress) (memory : List ℕ) → Ran m t budget p memory →
-    Goes t budget (run p memory) (begun m)
-run_goes m whole t budget p memory ran = subst (λ (r : Run). Goes t budget r (begun m)) (sym ran) (passing.run_goes t budget m whole)
+pub run_goes : (m : Machine) → is_whole m.memory ≡ true → (t : List ℕ) (budget : ℕ) (s : Crate) (report : Report) (memory : List ℕ) →
+    Ran m t budget s report memory → Goes t budget (run (progress_of s report false) memory) (begun m)
+run_goes m whole t budget s report memory ran = subst (λ (r : Run). Goes t budget r (begun m)) (sym ran) (passing.run_goes t budget m whole)
 
 -- And the cause that a run reports is the check that the record at the next offset meets.
-pub run_cause : (m : Machine) → is_whole m.memory ≡ true → (t : List ℕ) (budget : ℕ) (p : Progress) (memory : List ℕ) → Ran m t budget p memory →
-    stopped p.report.stop ≡ fate_of t p.report.next (budget - p.report.ticks)
-run_cause m whole t budget p memory ran =
+pub run_cause : (m : Machine) → is_whole m.memory ≡ true → (t : List ℕ) (budget : ℕ) (s : Crate) (report : Report) (memory : List ℕ) →
+    Ran m t budget s report memory → stopped report.stop ≡ fate_of t report.next (budget - report.ticks)
+run_cause m whole t budget s report memory ran =
     subst (λ (r : Run). stopped r.progress.report.stop ≡ fate_of t r.progress.report.next (budget - r.progress.report.ticks))
     (sym ran) (passing.run_cause t budget m whole)
 
@@ -92,9 +90,10 @@ all_seen = acting.saw
 pub rehearsable : (l : List Act) → Saw l (seen_of l) (after (list_of l))
 rehearsable = acting.rehearsable
 
--- So a read within a list, behind what came before it (place 0 is power-up's), shows the number and the word that the register has then.
+-- So a read within a list, behind what came before it (place 0 is power-up's), shows the number and the word that the register has then, or
+-- where it is refused its number.
 pub seen_read : (l : List Act) (a : ℕ) (more : List Act) (seen : List Seen) (n : Machine) → Saw (l ++ (reading a ∷ more)) seen n → (d : Seen) →
-    get_or seen (suc (length l)) d ≡ told (read_of (after (list_of l)) a) (number_of (read_of (after (list_of l)) a).answer)
+    get_or seen (suc (length l)) d ≡ told (read_of (after (list_of l)) a) (number_of (read_of (after (list_of l)) a))
 seen_read = returning.seen_read
 
 -- And a run within a list, given the crate and memory after what came before it, reports ..
@@ -190,7 +189,7 @@ code_isolation_within = returning.code_isolation_within
 
 -- Where the calls of a rehearsal are l₁, x and l₂, x by itself or as a record of a run, a request that x makes ..
 module _ (l : List Act) (n : Machine) (h : Rehearsed l n) (l₁ : List Call) (x : Call) (l₂ : List Call) (cut : list_of l ≡ l₁ ++ (x ∷ l₂))
-    (q : Request) (made : request_made (after l₁) x ≡ some q) where
+    (q : Request) (made : request_made (after l₁) x ≡ Some q) where
   -- .. stands in the crate that the functions gave where `stand_after` says,
   pub code_stands : Stands n.state.common q (stand_after (step (after l₁) x) l₂ (waits (after l₁).state.common.queue.waiting))
   code_stands = returning.code_stands l n h l₁ x l₂ cut q made
@@ -203,5 +202,5 @@ module _ (l : List Act) (n : Machine) (h : Rehearsed l n) (l₁ : List Call) (x 
 -- Document 02, request 1: two rehearsals in whose accepted ticks an input has the same levels read its raw count alike.
 pub code_raw_alike : (j : ℕ) → j < 108 → (l m : List Act) (n k : Machine) → Rehearsed l n → Rehearsed m k →
     levels_of (j / 2) (list_of l) ≡ levels_of (j / 2) (list_of m) →
-    (p q : Read) (left kept : List ℕ) → Looked n (0x1300 + j) p left → Looked k (0x1300 + j) q kept → p ≡ q
+    (p q : Result ℕ Refusal) → Looked n (0x1300 + j) p → Looked k (0x1300 + j) q → p ≡ q
 code_raw_alike = returning.code_raw_alike
