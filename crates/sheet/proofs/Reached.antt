@@ -25,9 +25,9 @@ use Rattle.counters.specs.Counter.{clear_counters, cleared, counter0, counter_at
 use Rattle.gates.specs.Gate.{each_gate, gate0, gate_at, gate_step, with_mode, with_prepare, with_prepare_pulse, with_recover, with_recover_pulse, with_timeout}
 use Rattle.lines.specs.Lines.{bad_levels, phase_limit}
 use Rattle.lines.specs.Raw.{count_rises, raw_at}
-use Rattle.loader.specs.Loader.{request0}
+use Rattle.loader.specs.Loader.{request0, request_for}
 use Rattle.loader.specs.Memory.{loaded, memory_words, replaced, word_at}
-use Rattle.watchdogs.specs.Watchdog.{reset_in, reset_watchdogs, step_watchdogs, watchdog0, watchdog_at, watchdog_top, with_reset}
+use Rattle.watchdogs.specs.Watchdog.{reset_in, reset_watchdogs, step_watchdogs, watchdog0, watchdog_at, watchdog_step, watchdog_top, with_reset}
 use Rattle.device.specs.declared.map.Register.{Register}
 use Rattle.device.specs.declared.map.Register.TheVariants.{Nothing, Readout, Other, Control, Mode, Timeout, Key, Enable, Reload, Prepare, Recover, Input, Group, Word}
 use Rattle.device.specs.declared.map.Setting.{Setting}
@@ -42,7 +42,7 @@ use Rattle.device.specs.Map.{decode_of, kept, used_bits}
 use Rattle.device.specs.State.{Machine, common0, memory0, power_up, with_groups, with_memory, with_registers, with_rest, with_state}
 use Rattle.tagging.specs.Tag.{command_of, commanded, events_on, noted_in, right_key, tag_of, tag_request}
 use Rattle.ticking.specs.Tick.{common_tick, rest_tick, tick_of}
-use Rattle.writing.specs.Write.{control_write, dataset_in, enable_write, key_write, on_common, on_counters, on_gates, reload_answer, reload_write, request_answer, requested, reset_by, rest_write, triggers, with_reload, write_at}
+use Rattle.writing.specs.Write.{control_write, dataset_in, enable_write, group_in, key_write, on_common, on_counters, on_gates, reload_answer, reload_write, request_answer, requested, reset_by, rest_write, triggers, with_reload, write_at}
 use Rattle.registers.proofs.Whole.{accepted, length_replaced}
 use Rattle.sheet.specs.Reachable.{CommonInRange, CounterInRange, GateInRange, OfWords, Reached, RequestInRange, RestInRange}
 use Rattle.sheet.proofs.InRange.{cleared_in, counter0_in, gate_in_lem, input_in, handled_in, load_all, load_in, loader_in, phases_in, pushed_in, queue_in, request0_in, taken, tick_in, watchdog_in}
@@ -65,21 +65,6 @@ gates_in_lem : (f : Bool → Gate → Gate) → ((b : Bool) (g : Gate) → GateI
 unfolding gate_at each_gate
 gates_in_lem f kept w gates h =
     all_each gate0 (λ i. GateInRange) (λ i. gate0_in) 12 _ gates (λ i g. kept (bit w i) g) h
-
-same_mode : (b : Bool) (g : Gate) → GateInRange g → GateInRange (with_mode b g)
-same_mode b g h = record { timer = h.timer; timeout = h.timeout }
-
-same_prepare : (b : Bool) (g : Gate) → GateInRange g → GateInRange (with_prepare b g)
-same_prepare b g h = record { timer = h.timer; timeout = h.timeout }
-
-same_recover : (b : Bool) (g : Gate) → GateInRange g → GateInRange (with_recover b g)
-same_recover b g h = record { timer = h.timer; timeout = h.timeout }
-
-same_prepare_pulse : (b : Bool) (g : Gate) → GateInRange g → GateInRange (with_prepare_pulse b g)
-same_prepare_pulse b g h = record { timer = h.timer; timeout = h.timeout }
-
-same_recover_pulse : (b : Bool) (g : Gate) → GateInRange g → GateInRange (with_recover_pulse b g)
-same_recover_pulse b g h = record { timer = h.timer; timeout = h.timeout }
 
 timeout_in : (gates : List Gate) → ((g : ℕ) → GateInRange (gate_at gates g)) → (k w : ℕ) →
     (g : ℕ) → GateInRange (gate_at (set gates k (with_timeout (kept (Timeout k) w) (gate_at gates k))) g)
@@ -132,22 +117,14 @@ all_held control rises was is xs e = all_tabulate counter0 (λ i. AtZero) (λ i.
 
 registers_in : (cm : Common) → CommonInRange cm → (control key enable reload : ℕ) → control < 2 ^ used_bits Control → key < 2 ^ used_bits Key →
     enable < 2 ^ used_bits Enable → reload < 2 ^ used_bits Reload → CommonInRange (with_registers cm control key enable reload)
-registers_in cm h control key enable reload p q r s =
-    record { control = p; key = q; enable = r; reload = s; queue = h.queue; loader = h.loader; phases = h.phases }
+registers_in cm h control key enable reload p q r s = assumption
 
 requested_in : (w : ℕ) (cm : Common) → CommonInRange cm → is_done (request_answer cm.queue (dataset_in w)) ≡ true → CommonInRange (requested w cm)
 unfolding requested
 requested_in w cm h e =
     let a = taken cm.queue (dataset_in w) e in
-    record {
-      control = h.control;
-      key = h.key;
-      enable = h.enable;
-      reload = h.reload;
-      queue = pushed_in cm.queue h.queue _ (record { dataset = a.0; group = field_lt w 8 4 }) a.1;
-      loader = h.loader;
-      phases = h.phases;
-    }
+    let q = pushed_in cm.queue h.queue (request_for (dataset_in w) (group_in w)) (record { dataset = a.0; group = field_lt w 8 4 }) a.1 in
+    assumption
 
 stored_reload : (w : ℕ) (cm : Common) → CommonInRange cm → CommonInRange (with_reload (kept Reload w) cm)
 stored_reload w cm h = registers_in cm h _ _ _ _ h.control h.key h.enable (kept_lt Reload w)
@@ -175,15 +152,8 @@ enable_in w cm h = registers_in cm h _ _ _ _ h.control h.key (kept_lt Enable w) 
 
 pub common_tick_in : (cm : Common) → CommonInRange cm → CommonInRange (common_tick cm)
 unfolding common_tick
-common_tick_in cm h = record {
-  control = h.control;
-  key = h.key;
-  enable = h.enable;
-  reload = h.reload;
-  queue = queue_in cm.loader cm.queue h.queue;
-  loader = loader_in cm.loader cm.queue h.loader h.queue;
-  phases = phases_in cm.phases h.phases;
-}
+common_tick_in cm h =
+    assumption (queue_in cm.loader cm.queue h.queue, loader_in cm.loader cm.queue h.loader h.queue, phases_in cm.phases h.phases)
 
 -- the control register keeps its bits, so RESET is set exactly where the count was cleared
 control_kept : (w : ℕ) (cm : Common) → reset_on (control_write w cm).control ≡ reset_on w
@@ -202,126 +172,38 @@ reset_in_lem b w h = let z : 0 ≤ watchdog_top = omega arith in both (λ (x : W
 
 rest_in : (r : Setting) (w : ℕ) (rest : Rest) → RestInRange rest → RestInRange (rest_write r w rest)
 unfolding rest_write reset_watchdogs reset_in
-rest_in (Mask k) w rest h = record {
-  masks = all_set 0 (λ i n. n < 2 ^ used_bits (Other (Mask i))) (λ i. lit< tt) rest.masks k _ (kept_lt (Other (Mask k)) w) h.masks;
-  timeout = h.timeout;
-  selections = h.selections;
-  watchdogs = h.watchdogs;
-  rawcounts = h.rawcounts;
-  gatelevels = h.gatelevels;
-  events = h.events;
-}
-rest_in WatchdogTimeout w rest h = record {
-  masks = h.masks;
-  timeout = kept_lt (Other WatchdogTimeout) w;
-  selections = h.selections;
-  watchdogs = h.watchdogs;
-  rawcounts = h.rawcounts;
-  gatelevels = h.gatelevels;
-  events = h.events;
-}
-rest_in (WatchdogReset k) w rest h = record {
-  masks = h.masks;
-  timeout = h.timeout;
-  selections = h.selections;
-  watchdogs =
-      watchdogs_in _ (λ i x p. both (λ (y : Watchdog). y.value ≤ watchdog_top) (eqb (i / 16) k) (reset_in_lem (bit w (i % 16)) x p) p) rest.watchdogs h.watchdogs;
-  rawcounts = h.rawcounts;
-  gatelevels = h.gatelevels;
-  events = h.events;
-}
-rest_in (Selection j) w rest h = record {
-  masks = h.masks;
-  timeout = h.timeout;
-  selections =
-      all_set 0 (λ i n. n < 2 ^ used_bits (Other (Selection i))) (λ i. pow_pos (used_bits (Other (Selection i)))) rest.selections j _
-      (kept_lt (Other (Selection j)) w) h.selections;
-  watchdogs = h.watchdogs;
-  rawcounts = h.rawcounts;
-  gatelevels = h.gatelevels;
-  events = h.events;
-}
+rest_in (Mask k) w rest h =
+    assumption (all_set 0 (λ i n. n < 2 ^ used_bits (Other (Mask i))) (λ i. lit< tt) rest.masks k _ (kept_lt (Other (Mask k)) w) h.masks)
+rest_in WatchdogTimeout w rest h = assumption (kept_lt (Other WatchdogTimeout) w)
+rest_in (WatchdogReset k) w rest h =
+    assumption
+    (watchdogs_in (reset_in k w) (λ i x p. both (λ (y : Watchdog). y.value ≤ watchdog_top) (eqb (i / 16) k) (reset_in_lem (bit w (i % 16)) x p) p) rest.watchdogs h.watchdogs)
+rest_in (Selection j) w rest h =
+    assumption
+    (all_set 0 (λ i n. n < 2 ^ used_bits (Other (Selection i))) (λ i. pow_pos (used_bits (Other (Selection i)))) rest.selections j _
+    (kept_lt (Other (Selection j)) w) h.selections)
 
 -- ---- calls: one law for each change of the machine
 
 reached_common : (m : Machine) → Reached m → (x : Common) → CommonInRange x → x.control ≡ m.state.common.control → Reached (on_common m x)
-reached_common m h x p e = record {
-  memory = h.memory;
-  words = h.words;
-  counters = h.counters;
-  groups = h.groups;
-  gates = h.gates;
-  levels = h.levels;
-  common = p;
-  rest = h.rest;
-  reset = rw e h.reset;
-}
+reached_common m h x p e =
+    let z : reset_on x.control ≡ true → (n : ℕ) → AtZero (counter_at m.state.counters n) = rw e h.reset in assumption
 
 reached_rest : (m : Machine) → Reached m → (x : Rest) → RestInRange x → Reached (with_state m (with_rest m.state x))
-reached_rest m h x p = record {
-  memory = h.memory;
-  words = h.words;
-  counters = h.counters;
-  groups = h.groups;
-  gates = h.gates;
-  levels = h.levels;
-  common = h.common;
-  rest = p;
-  reset = h.reset;
-}
+reached_rest m h x p = assumption
 
 reached_gates : (m : Machine) → Reached m → (x : List Gate) → ((g : ℕ) → GateInRange (gate_at x g)) → Reached (on_gates m x)
-reached_gates m h x p = record {
-  memory = h.memory;
-  words = h.words;
-  counters = h.counters;
-  groups = h.groups;
-  gates = p;
-  levels = h.levels;
-  common = h.common;
-  rest = h.rest;
-  reset = h.reset;
-}
+reached_gates m h x p = assumption
 
 reached_counters : (m : Machine) → Reached m → (x : List Counter) → ((n : ℕ) → CounterInRange (counter_at x n)) →
     (reset_on m.state.common.control ≡ true → (n : ℕ) → AtZero (counter_at x n)) → Reached (on_counters m x)
-reached_counters m h x p z = record {
-  memory = h.memory;
-  words = h.words;
-  counters = p;
-  groups = h.groups;
-  gates = h.gates;
-  levels = h.levels;
-  common = h.common;
-  rest = h.rest;
-  reset = z;
-}
+reached_counters m h x p z = assumption
 
 reached_groups : (m : Machine) → Reached m → (x : List ℕ) → ((k : ℕ) → get_or x k 0 < 2 ^ 16) → Reached (with_state m (with_groups m.state x))
-reached_groups m h x p = record {
-  memory = h.memory;
-  words = h.words;
-  counters = h.counters;
-  groups = p;
-  gates = h.gates;
-  levels = h.levels;
-  common = h.common;
-  rest = h.rest;
-  reset = h.reset;
-}
+reached_groups m h x p = assumption
 
 reached_memory : (m : Machine) → Reached m → (x : List ℕ) → length x ≡ memory_words → ((a : ℕ) → word_at x a < 2 ^ 16) → Reached (with_memory m x)
-reached_memory m h x e p = record {
-  memory = e;
-  words = p;
-  counters = h.counters;
-  groups = h.groups;
-  gates = h.gates;
-  levels = h.levels;
-  common = h.common;
-  rest = h.rest;
-  reset = h.reset;
-}
+reached_memory m h x e p = assumption
 
 -- command 0x4 and RESET
 reached_clear : (m : Machine) → Reached m → Reached (on_counters m (clear_counters m.state.counters))
@@ -363,23 +245,22 @@ control_stays w cm =
 
 reached_write : (m : Machine) → Reached m → (r : Register) (w : ℕ) → Reached (write_at m r w)
 unfolding write_at
-reached_write m h Nothing w = h
-reached_write m h (Readout r) w = h
 reached_write m h (Other r) w = reached_rest m h _ (rest_in r w m.state.rest h.rest)
 reached_write m h Control w = reached_control m h w
-reached_write m h Mode w = reached_gates m h _ (gates_in_lem with_mode same_mode w m.state.gates h.gates)
+reached_write m h Mode w = reached_gates m h _ (gates_in_lem with_mode (λ b g h. assumption) w m.state.gates h.gates)
 reached_write m h (Timeout g) w = reached_gates m h _ (timeout_in m.state.gates h.gates g w)
 reached_write m h Key w = reached_common m h _ (key_in w m.state.common h.common) (unfold key_write in refl)
 reached_write m h Enable w = reached_common m h _ (enable_in w m.state.common h.common) (unfold enable_write in refl)
 reached_write m h Reload w = reached_common m h _ (reload_in w m.state.common h.common) (control_stays w m.state.common)
-reached_write m h Prepare w = reached_gates m h _ (gates_in_lem with_prepare same_prepare w m.state.gates h.gates)
-reached_write m h Recover w = reached_gates m h _ (gates_in_lem with_recover same_recover w m.state.gates h.gates)
+reached_write m h Prepare w = reached_gates m h _ (gates_in_lem with_prepare (λ b g h. assumption) w m.state.gates h.gates)
+reached_write m h Recover w = reached_gates m h _ (gates_in_lem with_recover (λ b g h. assumption) w m.state.gates h.gates)
 reached_write m h (Input n) w = reached_input m h n w
 reached_write m h (Group k) w =
     reached_groups m h _ (all_set 0 (λ i n. n < 2 ^ 16) (λ i. lit< tt) m.state.groups k _ (kept_lt (Group k) w) h.groups)
 reached_write m h (Word i) w =
     reached_memory m h _ (length-set m.memory i _ ∙ h.memory)
     (unfold word_at in (all_set 0 (λ i n. n < 2 ^ 16) (λ i. lit< tt) m.memory i _ (kept_lt (Word i) w) h.words))
+reached_write m h r w = h
 
 -- ---- ticks
 
@@ -398,20 +279,10 @@ rawcounts_in rises rawcounts h =
 rest_tick_in : (rest : Rest) (cm : Common) → RestInRange rest → CommonInRange cm → (rawcounts : List ℕ) → ((i : ℕ) → raw_at rawcounts i < 2 ^ 32) →
     (rises gates : ℕ) → gates < 2 ^ 12 → RestInRange (rest_tick rest rawcounts rises gates cm.loader)
 unfolding rest_tick step_watchdogs
-rest_tick_in rest cm h k rawcounts r rises gates g = record {
-  masks = h.masks;
-  timeout = h.timeout;
-  selections = h.selections;
-  watchdogs = watchdogs_in _ (λ i w. watchdog_in rest.timeout (bit rises i) w) rest.watchdogs h.watchdogs;
-  rawcounts = r;
-  gatelevels = g;
-  events = record {
-    low = h.events.low;
-    high = h.events.high;
-    code = h.events.code;
-    handled = handled_in cm.loader rest.events.handled k.loader h.events.handled;
-  };
-}
+rest_tick_in rest cm h k rawcounts r rises gates g =
+    assumption
+    (watchdogs_in (λ i. watchdog_step rest.timeout (bit rises i)) (λ i w. watchdog_in rest.timeout (bit rises i) w) rest.watchdogs h.watchdogs,
+    handled_in cm.loader rest.events.handled k.loader h.events.handled)
 
 reached_tick : (m : Machine) → Reached m → (inputs gates : ℕ) → bad_levels inputs gates ≡ false → Reached (with_state m (tick_of m.state m.memory inputs gates))
 unfolding tick_of
@@ -438,20 +309,9 @@ reached_tick m h inputs gates good =
 -- ---- tags
 
 noted_in_lem : (m : Machine) → Reached m → (t : ℕ) → Reached (with_state m (noted_in m.state t))
-noted_in_lem m h t = reached_rest m h _ (record {
-  masks = h.rest.masks;
-  timeout = h.rest.timeout;
-  selections = h.rest.selections;
-  watchdogs = h.rest.watchdogs;
-  rawcounts = h.rest.rawcounts;
-  gatelevels = h.rest.gatelevels;
-  events = record {
-    low = field_lt t 0 16;
-    high = field_lt t 16 16;
-    code = both (λ (n : ℕ). n < 2 ^ 16) (right_key m.state.common t) (field_lt t 0 16) h.rest.events.code;
-    handled = h.rest.events.handled;
-  };
-})
+noted_in_lem m h t =
+    reached_rest m h _
+    (assumption (field_lt t 0 16, field_lt t 16 16, both (λ (n : ℕ). n < 2 ^ 16) (right_key m.state.common t) (field_lt t 0 16) h.rest.events.code))
 
 abbrev ReachedIn : Machine → Crate → Type 0
 ReachedIn m s = Reached (with_state m s)
@@ -469,9 +329,9 @@ unfolding commanded
 reached_command m h t =
     both (ReachedIn m) (eqb (command_of t) 1) (reached_common m h _ (tag_request_in t m.state.common h.common) (tag_control t m.state.common))
     (both (ReachedIn m) (eqb (command_of t) 2)
-    (reached_gates m h _ (gates_in_lem with_prepare_pulse same_prepare_pulse t m.state.gates h.gates))
+    (reached_gates m h _ (gates_in_lem with_prepare_pulse (λ b g h. assumption) t m.state.gates h.gates))
     (both (ReachedIn m) (eqb (command_of t) 3)
-    (reached_gates m h _ (gates_in_lem with_recover_pulse same_recover_pulse t m.state.gates h.gates))
+    (reached_gates m h _ (gates_in_lem with_recover_pulse (λ b g h. assumption) t m.state.gates h.gates))
     (both (ReachedIn m) (eqb (command_of t) 4) (reached_clear m h) h)))
 
 reached_tag : (m : Machine) → Reached m → (t : ℕ) → ReachedIn m (tag_of m.state t)
