@@ -58,10 +58,26 @@ address_of (Input n) = 0x1000 + n
 address_of (Group k) = 0x1600 + k
 address_of (Word i) = 0x8000 + i
 
+-- the numbers that the map gives are those of its blocks
+
+abbrev pub InBlock : Setting → Type 0
+InBlock (Mask k) = k < 6
+InBlock (WatchdogReset k) = k < 4
+InBlock (Selection j) = j < 132
+InBlock WatchdogTimeout = Unit
+
+abbrev pub InMap : Register → Type 0
+InMap (Other r) = InBlock r
+InMap (Timeout g) = g < 12
+InMap (Input n) = n < 128
+InMap (Group k) = k < 32
+InMap (Word i) = i < 16384
+InMap r = Unit
+
 -- what stands at an address: nothing, or a register with that address
 pub data Placed (a : ℕ) (r : Register) : Type 0 where
   gap : r ≡ Nothing → Placed a r
-  named : address_of r ≡ a → Placed a r
+  named : InMap r → address_of r ≡ a → Placed a r
 
 -- ---- a row of the map after the other
 
@@ -72,47 +88,47 @@ backplane_placed : (a : ℕ) → Placed a (backplane_map a)
 unfolding backplane_map
 backplane_placed a =
     row a 0x0630 _ _ (λ h. gap refl) (λ h.
-    row a 0x0636 _ _ (λ k. named (omega arith)) (λ k.
+    row a 0x0636 _ _ (λ k. named (omega arith) (omega arith)) (λ k.
     row a 0x0638 _ _ (λ l. gap refl) (λ l.
-    row a 0x063E _ _ (λ n. named (omega arith)) (λ n. gap refl))))
+    row a 0x063E _ _ (λ n. named tt (omega arith)) (λ n. gap refl))))
 
 status_placed : (a : ℕ) → 0x0700 ≤ a → Placed a (status_map a)
 unfolding status_map
 status_placed a g =
-    row a 0x0708 _ _ (λ h. named (omega arith)) (λ h.
-    row a 0x0710 _ _ (λ k. named (omega arith)) (λ k.
-    row a 0x0711 _ _ (λ l. named (omega arith)) (λ l.
-    row a 0x0715 _ _ (λ n. named (omega arith)) (λ n.
+    row a 0x0708 _ _ (λ h. named tt (omega arith)) (λ h.
+    row a 0x0710 _ _ (λ k. named tt (omega arith)) (λ k.
+    row a 0x0711 _ _ (λ l. named tt (omega arith)) (λ l.
+    row a 0x0715 _ _ (λ n. named tt (omega arith)) (λ n.
     row a 0x0717 _ _ (λ o. gap refl) (λ o.
-    row a 0x0718 _ _ (λ p. named (omega arith)) (λ p.
-    row a 0x0719 _ _ (λ q. named (omega arith)) (λ q.
-    row a 0x071A _ _ (λ r. named (omega arith)) (λ r.
-    row a 0x071D _ _ (λ s. named (omega arith)) (λ s. gap refl)))))))))
+    row a 0x0718 _ _ (λ p. named tt (omega arith)) (λ p.
+    row a 0x0719 _ _ (λ q. named tt (omega arith)) (λ q.
+    row a 0x071A _ _ (λ r. named tt (omega arith)) (λ r.
+    row a 0x071D _ _ (λ s. named tt (omega arith)) (λ s. gap refl)))))))))
 
 control_placed : (a : ℕ) → 0x0800 ≤ a → Placed a (control_map a)
 unfolding control_map
 control_placed a g =
-    row a 0x0801 _ _ (λ h. named (omega arith)) (λ h.
-    row a 0x0802 _ _ (λ k. named (omega arith)) (λ k.
-    row a 0x0803 _ _ (λ l. named (omega arith)) (λ l.
+    row a 0x0801 _ _ (λ h. named tt (omega arith)) (λ h.
+    row a 0x0802 _ _ (λ k. named tt (omega arith)) (λ k.
+    row a 0x0803 _ _ (λ l. named tt (omega arith)) (λ l.
     row a 0x0804 _ _ (λ n. gap refl) (λ n.
-    row a 0x0810 _ _ (λ o. named (omega arith)) (λ o.
-    row a 0x0814 _ _ (λ p. named (omega arith)) (λ p. gap refl))))))
+    row a 0x0810 _ _ (λ o. named (omega arith) (omega arith)) (λ o.
+    row a 0x0814 _ _ (λ p. named (omega arith) (omega arith)) (λ p. gap refl))))))
 
 event_placed : (a : ℕ) → 0x0900 ≤ a → Placed a (event_map a)
 unfolding event_map
 event_placed a g =
-    row a 0x0901 _ _ (λ h. named (omega arith)) (λ h.
-    row a 0x0902 _ _ (λ k. named (omega arith)) (λ k.
-    row a 0x0903 _ _ (λ l. named (omega arith)) (λ l.
-    row a 0x0904 _ _ (λ n. named (omega arith)) (λ n.
-    row a 0x0905 _ _ (λ o. named (omega arith)) (λ o.
+    row a 0x0901 _ _ (λ h. named tt (omega arith)) (λ h.
+    row a 0x0902 _ _ (λ k. named tt (omega arith)) (λ k.
+    row a 0x0903 _ _ (λ l. named tt (omega arith)) (λ l.
+    row a 0x0904 _ _ (λ n. named tt (omega arith)) (λ n.
+    row a 0x0905 _ _ (λ o. named tt (omega arith)) (λ o.
     row a 0x0A00 _ _ (λ p. gap refl) (λ p.
-    row a 0x0A01 _ _ (λ q. named (omega arith)) (λ q.
-    row a 0x0A02 _ _ (λ r. named (omega arith)) (λ r.
-    row a 0x0A03 _ _ (λ s. named (omega arith)) (λ s.
-    row a 0x0A04 _ _ (λ t. named (omega arith)) (λ t.
-    row a 0x0A05 _ _ (λ u. named (omega arith)) (λ u. gap refl)))))))))))
+    row a 0x0A01 _ _ (λ q. named tt (omega arith)) (λ q.
+    row a 0x0A02 _ _ (λ r. named tt (omega arith)) (λ r.
+    row a 0x0A03 _ _ (λ s. named tt (omega arith)) (λ s.
+    row a 0x0A04 _ _ (λ t. named tt (omega arith)) (λ t.
+    row a 0x0A05 _ _ (λ u. named tt (omega arith)) (λ u. gap refl)))))))))))
 
 -- word r of output q is word 22 × q + r of all outputs
 selection_place : (q r : ℕ) → r < 22 → 32 * ((22 * q + r) / 22) + (22 * q + r) % 22 ≡ 32 * q + r
@@ -121,11 +137,16 @@ selection_place q r h = omega arith
 raster : (k : ℕ) → 32 * (k / 32) + k % 32 ≡ k
 raster k = omega arith
 
-output_placed : (a : ℕ) → 0x1100 ≤ a → Placed a (output_block (a - 0x1100))
-output_placed a g =
+block_in : (k : ℕ) → k < 192 → k % 32 < 22 → 22 * (k / 32) + k % 32 < 132
+block_in k l h = omega arith
+
+output_placed : (a : ℕ) → 0x1100 ≤ a → a < 0x11C0 → Placed a (output_block (a - 0x1100))
+output_placed a g l =
     let k : ℕ = a - 0x1100 in
     pick_elim (Placed a) (ltb (k % 32) 22)
-    (λ e. named (ap (λ (n : ℕ). 0x1100 + n) (selection_place (k / 32) (k % 32) (ltb-true (k % 32) 22 e) ∙ raster k) ∙ back))
+    (λ e.
+    let h : k % 32 < 22 = ltb-true (k % 32) 22 e in
+    named (block_in k (omega arith) h) (ap (λ (n : ℕ). 0x1100 + n) (selection_place (k / 32) (k % 32) h ∙ raster k) ∙ back))
     (λ e. gap refl)
   where
     back : 0x1100 + (a - 0x1100) ≡ a
@@ -134,18 +155,18 @@ output_placed a g =
 counter_placed : (a : ℕ) → 0x1000 ≤ a → Placed a (counter_map a)
 unfolding counter_map
 counter_placed a g =
-    row a 0x1080 _ _ (λ h. named (omega arith)) (λ h.
+    row a 0x1080 _ _ (λ h. named (omega arith) (omega arith)) (λ h.
     row a 0x1100 _ _ (λ k. gap refl) (λ k.
-    row a 0x11C0 _ _ (λ l. output_placed a k) (λ l.
+    row a 0x11C0 _ _ (λ l. output_placed a k l) (λ l.
     row a 0x1200 _ _ (λ n. gap refl) (λ n.
-    row a 0x1300 _ _ (λ o. named (omega arith)) (λ o.
-    row a 0x136C _ _ (λ p. named (omega arith)) (λ p.
+    row a 0x1300 _ _ (λ o. named tt (omega arith)) (λ o.
+    row a 0x136C _ _ (λ p. named tt (omega arith)) (λ p.
     row a 0x1600 _ _ (λ q. gap refl) (λ q.
-    row a 0x1620 _ _ (λ r. named (omega arith)) (λ r.
+    row a 0x1620 _ _ (λ r. named (omega arith) (omega arith)) (λ r.
     row a 0x1800 _ _ (λ s. gap refl) (λ s.
-    row a 0x1A00 _ _ (λ t. named (omega arith)) (λ t.
+    row a 0x1A00 _ _ (λ t. named tt (omega arith)) (λ t.
     row a 0x8000 _ _ (λ u. gap refl) (λ u.
-    row a 0xC000 _ _ (λ v. named (omega arith)) (λ v. gap refl))))))))))))
+    row a 0xC000 _ _ (λ v. named (omega arith) (omega arith)) (λ v. gap refl))))))))))))
 
 pub placed : (a : ℕ) → Placed a (decode_of a)
 unfolding decode_of
@@ -155,14 +176,21 @@ placed a =
     row a 0x0900 _ _ (λ l. control_placed a k) (λ l.
     row a 0x1000 _ _ (λ n. event_placed a l) (λ n. counter_placed a n))))
 
+pub in_map : (a : ℕ) → InMap (decode_of a)
+in_map a = by (placed a)
+  where
+    by : Placed a (decode_of a) → InMap (decode_of a)
+    by (gap p) = rw p tt
+    by (named m p) = m
+
 -- so two addresses at which registers stand are the same where the registers are
 pub one_address : (a b : ℕ) → (decode_of a ≡ Nothing → ⊥) → decode_of a ≡ decode_of b → a ≡ b
 one_address a b full e = by (placed a) (placed b)
   where
     by : Placed a (decode_of a) → Placed b (decode_of b) → a ≡ b
     by (gap p) q = absurd (full p)
-    by (named p) (gap q) = absurd (full (e ∙ q))
-    by (named p) (named q) = sym p ∙ ap address_of e ∙ q
+    by (named m p) (gap q) = absurd (full (e ∙ q))
+    by (named m p) (named o q) = sym p ∙ ap address_of e ∙ q
 
 -- 0x0A02 and no other
 pub decode_reload : decode_of 0x0A02 ≡ Reload
@@ -173,5 +201,5 @@ pub reload_at : (a : ℕ) → decode_of a ≡ Reload → a ≡ 0x0A02
 reload_at a e = by (placed a)
   where
     by : Placed a (decode_of a) → a ≡ 0x0A02
-    by (gap p) = let z : ◌≡◌ {A = ℕ} 0 1 = cc in absurd (omega arith)
-    by (named p) = sym p ∙ ap address_of e
+    by (gap p) = cc
+    by (named m p) = sym p ∙ ap address_of e

@@ -150,20 +150,11 @@ unmoved m = (record { loader = refl; queue = same }, λ h. h)
 
 write_apart : (m : Machine) (r : Register) (w : ℕ) → Apart m (write_at m r w)
 unfolding write_at
-write_apart m Nothing w = unmoved m
-write_apart m (Readout r) w = unmoved m
-write_apart m (Other r) w = unmoved m
 write_apart m Control w = (unfold control_write in (record { loader = refl; queue = same }), control_in w m.state.common)
-write_apart m Mode w = unmoved m
-write_apart m (Timeout g) w = unmoved m
 write_apart m Key w = (unfold key_write in (record { loader = refl; queue = same }), key_in w m.state.common)
 write_apart m Enable w = (unfold enable_write in (record { loader = refl; queue = same }), enable_in w m.state.common)
 write_apart m Reload w = (reload_still w m.state.common, reload_in w m.state.common)
-write_apart m Prepare w = unmoved m
-write_apart m Recover w = unmoved m
-write_apart m (Input n) w = unmoved m
-write_apart m (Group k) w = unmoved m
-write_apart m (Word i) w = unmoved m
+write_apart m r w = unmoved m
 
 tag_apart : (m : Machine) (t : ℕ) → Apart m (with_state m (tag_of m.state t))
 unfolding tag_of commanded

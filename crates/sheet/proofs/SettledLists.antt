@@ -107,20 +107,8 @@ module _ (A : Lines) (c : ℕ) where
   -- a repeat brings no new line
   at_repeat : (s : Sheet) → At s → (p : Part) → repeats c s p ≡ true → Holds A (part_lines p)
   unfolding repeats
-  at_repeat s a (ticked refused inputs gates) e = holds_none A
   at_repeat s a (patched w) e = rw (← (lines_kept c w), eqb-true (kept (Input c) w) s.counter.input e) (holds_word A s.counter.input a)
-  at_repeat s a (stored k w) e = holds_none A
-  at_repeat s a (controlled w) e = holds_none A
-  at_repeat s a (keyed w) e = holds_none A
-  at_repeat s a (enabled w) e = holds_none A
-  at_repeat s a (reloaded w) e = holds_none A
-  at_repeat s a (timed g w) e = holds_none A
-  at_repeat s a (grouped n) e = holds_none A
-  at_repeat s a (moded w) e = holds_none A
-  at_repeat s a (prepared w) e = holds_none A
-  at_repeat s a (recovered w) e = holds_none A
-  at_repeat s a (tagged t) e = holds_none A
-  at_repeat s a (downloaded d size four) e = holds_none A
+  at_repeat s a p e = holds_none A
 
   -- what is dropped has no lines of its own ..
   lines_all : (s : Sheet) → At s → (parts : List Part) → Holds A (parts_lines (settled_from c s parts)) → Holds A (parts_lines parts)
