@@ -15,7 +15,7 @@ use loader::Queue;
 use watchdogs::Watchdog;
 
 // What all counters share, at power-up.
-#[tactic(auto, using(lists::proofs::Tables::tabulate_fill))]
+#[tactic(auto, unfolding(lists::specs::Table::tabulate, lists::specs::Table::table_from))]
 fn new_common() -> Common
     ensures { result ≡ common0 }
 {
@@ -31,7 +31,7 @@ fn new_common() -> Common
 }
 
 // What no counter sees, at power-up.
-#[tactic(auto, using(lists::proofs::Tables::tabulate_fill))]
+#[tactic(auto, unfolding(lists::specs::Table::tabulate, lists::specs::Table::table_from))]
 fn new_rest() -> Rest
     ensures { result ≡ rest0 }
 {
@@ -47,7 +47,7 @@ fn new_rest() -> Rest
 }
 
 // The crate at power-up.
-#[tactic(auto, using(lists::proofs::Tables::tabulate_fill), unfolding(device::specs::State::power_up))]
+#[tactic(auto, unfolding(device::specs::State::power_up, lists::specs::Table::tabulate, lists::specs::Table::table_from))]
 fn new_crate() -> Crate
     ensures { result ≡ power_up }
 {
@@ -79,8 +79,8 @@ pub fn power_up(mem: &mut [u16]) -> (Crate, Result<(), Refusal>)
 pub fn read(state: &Crate, mem: &[u16], address: u16) -> Result<u16, Refusal>
     ensures { result ≡ read_of (machine state.now mem.now) address }
 {
-    let mem = mem.as_array().ok_or(Refusal::Memory)?;
     let register = device::decode(address);
+    let mem = mem.as_array().ok_or(Refusal::Memory)?;
     reading::answer_for(register)?;
     Ok(reading::word_in(state, mem, register))
 }
@@ -90,10 +90,11 @@ pub fn read(state: &Crate, mem: &[u16], address: u16) -> Result<u16, Refusal>
 pub fn scan(state: &Crate, mem: &[u16]) -> Result<[OutputScan; 6], Refusal>
     ensures { result ≡ scan_of (machine state.now mem.now) }
 {
-    if mem.len() != 16384 {
-        return Err(Refusal::Memory);
+    if mem.len() == 16384 {
+        Ok(interlocks::scan_outputs(state))
+    } else {
+        Err(Refusal::Memory)
     }
-    Ok(interlocks::scan_outputs(state))
 }
 
 // A write of a word to an address.
