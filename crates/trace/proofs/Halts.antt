@@ -21,9 +21,9 @@ use Rattle.records.specs.Records.{Found, next_at, record_at}
 use Rattle.trace.specs.Run.{Run, begun, by_record, call_in, once_of, one, passes, repeated, report_of, run_from, run_of, stops_by, ticks_in}
 use Rattle.trace.specs.Sound.{Sound}
 use Rattle.trace.proofs.Listed.{halted_stays, run_on_lem}
-use Rattle.trace.proofs.Steps.{Within, once_sound, record_whole}
+use Rattle.trace.proofs.Steps.{Within, once_sound, record_whole, run_begins}
 
-abbrev place : Run → ℕ
+abbrev pub place : Run → ℕ
 place r = r.progress.report.next
 
 -- after r, either the run stops at q or q stands further on in the trace
@@ -89,6 +89,9 @@ module _ (t : List ℕ) (budget : ℕ) where
   abbrev pub ended : Run → Run
   ended r = run_from (length t + 1 - place r) t budget r
 
+  pub begun_ended : (m : Machine) → length m.memory ≡ 16384 → ended (begun m) ≡ run_of t budget m
+  begun_ended m h = let e : length t + 1 - 0 ≡ length t + 1 = omega arith in rw e (run_begins t budget m h)
+
   -- a record makes no other end of a run: of one that goes on, and then further on in the trace; and of one that stops
   pub goes_on : (r : Run) → r.progress.going ≡ true → place r ≤ length t → (once_of t budget r).progress.going ≡ true →
       (ended (once_of t budget r) ≡ ended r) × (length t - place (once_of t budget r) < length t - place r)
@@ -96,7 +99,7 @@ module _ (t : List ℕ) (budget : ℕ) where
       let f = (once_further r).further g in
       let s : length t + 1 - place r ≡ suc (length t - place r) = omega arith in (
         enough (length t + 1 - place (once_of t budget r)) (length t - place r) (once_of t budget r) g (omega (arith, f.1)) (omega (arith, f.0, f.1))
-        ∙ rw s (turn (length t - place r) r e),
+            ∙ rw s (turn (length t - place r) r e),
         omega (arith, f.0, f.1),
       )
 

@@ -3,18 +3,21 @@ use Prim.{Unit, tt}
 use Prim.Native.Nat.{ℕ, zero, suc, ◌+◌, ◌-◌, ◌^◌, ◌<◌, ◌≤◌}
 use native.Mathlib.Nat.{not-suc-le-zero}
 use native.Mathlib.Omega.{arith}
-use mathlib.Core.Bool.{Bool, true, false}
+use mathlib.Core.Bool.{Bool, true, false, not}
 use mathlib.Core.List.{List}
-use mathlib.Core.Path.{◌≡◌, refl, sym, subst, ◌∙◌}
+use mathlib.Core.Path.{◌≡◌, refl, sym, ap, subst, ◌∙◌}
 use borrow.Author.Tests.{eq-eqb, eqb-false, ltb-false}
 use lib.Dec.{eqb, ltb, lit≤}
 use lib.ListN.{length}
 use Rattle.words.specs.Word.{bit_of}
+use Rattle.std.specs.Result.{is_err}
 use Rattle.std.proofs.Common.{Ok, Err}
 use Rattle.bools.proofs.Tests.{cases, pick_elim}
 use Rattle.lists.specs.Table.{table_from, tabulate}
 use Rattle.loader.specs.Memory.{is_whole}
-use Rattle.registers.specs.Calls.{Call, tick, write, tag, called, from, step}
+use Rattle.registers.specs.Calls.{Call, tick, write, tag, answer, called, from, is_refused, step}
+use Rattle.device.specs.declared.state.Crate.{Crate}
+use Rattle.device.specs.Answer.{Answer, is_done}
 use Rattle.device.specs.State.{Machine, machine}
 use Rattle.lines.specs.Lines.{bad_levels}
 use Rattle.records.specs.declared.Record.TheVariants.{Ticks, Write, Tag}
@@ -22,7 +25,7 @@ use Rattle.trace.specs.declared.Report.{Report}
 use Rattle.records.specs.Records.{Found, header_bytes, is_known, length_at, next_at, number_at, payload_at, payload_bytes, record_at, repeat_bytes, tag_at, ticks_at}
 use Rattle.records.specs.declared.Stop.{Stop}
 use Rattle.records.specs.declared.Stop.TheVariants.{End, Spent}
-use Rattle.trace.specs.Run.{Run, begun, by_record, call_in, once_of, one, passed, passes, repeated, run_from, run_of, stopped, stops_by, ticks_in}
+use Rattle.trace.specs.Run.{Run, begun, by_record, call_in, machine_of, once_of, one, passed, passes, progress_of, repeated, run, run_from, run_of, run_on, stopped, stops_by, ticks_in}
 use Rattle.trace.specs.Sound.{Room, Sound}
 
 -- a refusal counts once at most
@@ -51,6 +54,17 @@ calls_less (suc n) m x h =
 pub tick_refused : (inputs gates : ℕ) (m : Machine) → bad_levels inputs gates ≡ true → step m (tick inputs gates) ≡ m
 unfolding step called
 tick_refused inputs gates m bad = cases (is_whole m.memory) (λ e. rw (e, bad)) (λ e. rw e)
+
+-- a call as its contract says it: what a record of it passes
+is_err_refused : (a : Answer) → is_err a ≡ not (is_done a)
+is_err_refused (Ok _) = refl
+is_err_refused (Err _) = refl
+
+pub call_made : (t : List ℕ) (r : Run) (x : Call) {s : Crate} {memory : List ℕ} {b : Bool} → machine s memory ≡ step (machine_of r) x →
+    b ≡ is_err (answer (machine_of r) x) → run (progress_of s (passed t r.progress.report 0 b) true) memory ≡ call_in t r x
+unfolding call_in passes from
+call_made t r x e h =
+    rw (h, is_err_refused (answer (machine_of r) x)) (ap (λ (m : Machine). run_on m (passed t r.progress.report 0 (is_refused (machine_of r) x)) true) e)
 
 -- ---- records that stand whole
 

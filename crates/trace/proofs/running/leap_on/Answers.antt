@@ -7,15 +7,14 @@ use Rattle.trace.proofs.running.leap_on.Goals as goal
 pub overflow_sub-result : goal.overflow_sub-result
 overflow_sub-result c =
     let a = c.args in
-    rw c.stretch-k.ensures (stretch_le a.state a.left a.inputs a.gates)
+    rw (c.from.ensures, c.stretch-k.ensures) (stretch_le a.state.now a.left a.levels.inputs a.levels.gates)
 
 pub returns : goal.returns
 returns c =
     let a = c.args in
-    let k = c.stretch-k in (
-      omega arith,
-      rw c.leap-next.ensures.0 (leapt_end a.inputs a.gates a.state a.left k.result k.ensures c.if-k-eq0.false c.leap-next.ensures.1),
-    )
+    let k = c.stretch-k in
+    let next = leapt_end a.levels.inputs a.levels.gates a.state.now a.left k.result k.ensures c.if-k-eq0.false c.leap.ensures.1 in
+    (omega arith, rw (c.from.ensures, c.leap.ensures.0) next)
 
 pub returns-then-k-eq0 : goal.returns-then-k-eq0
 returns-then-k-eq0 c = (omega arith, same_end _ _ _ _)

@@ -1,0 +1,83 @@
+-- `run` meets its contract: what the turns left make of the run is the same at each turn (`goes_on`), and a run that stops has none left (`stops_here`).
+use Prim.Native.Nat.{◌-◌, ◌<◌}
+use native.Mathlib.Omega.{arith}
+use mathlib.Core.Bool.{true, false}
+use mathlib.Core.Path.{◌≡◌, refl, sym, ap, subst, ◌∙◌}
+use borrow.Author.Tests.{ne_eqb}
+use lib.ListN.{length}
+use Rattle.device.specs.State.{machine}
+use Rattle.records.specs.declared.Stop.TheVariants.{Memory}
+use Rattle.trace.specs.declared.Report.{Report}
+use Rattle.trace.specs.Run.{Run, once_of, progress_of, run, run_of, stopped}
+use Rattle.trace.specs.Sound.{Sound}
+use Rattle.trace.specs.Turns.{so_far}
+use Rattle.trace.proofs.Halts.{begun_ended, ended, goes_on, place, stops_here}
+use Rattle.trace.proofs.Steps.{once_sound}
+use Rattle.trace.proofs.running.run.Goals as goal
+
+pub returns-then-mem-ne16384 : goal.returns-then-mem-ne16384
+unfolding run_of
+returns-then-mem-ne16384 c =
+    let a = c.args in
+    rw (c.report.ensures, ne_eqb (length a.mem.now) 16384 c.if-mem-ne16384.true)
+    (ap (λ (r : Report). run (progress_of a.state.now (stopped r Memory) false) a.mem.now) c.new-running.ensures.0)
+
+pub loop-stop-init : goal.loop-stop-init
+loop-stop-init c =
+    let a = c.args in
+    let begun = c.new-running.ensures in
+    record {
+      trace = begun.1;
+      budget = begun.2;
+      sound = rw begun.0 (record { place = omega arith; passes = omega arith; refusals = omega arith; spent = omega arith });
+      same =
+          ap (λ (r : Report). ended a.trace.now a.budget (run (progress_of a.state.now r true) a.mem.now)) begun.0
+          ∙ begun_ended a.trace.now a.budget (machine a.state.now a.mem.now) c.if-mem-ne16384.false;
+    }
+
+pub once-requires : goal.once-requires
+once-requires c =
+    let i = c.loop-stop.invariant in
+    (rw (i.trace, i.budget) i.sound, rw i.budget (omega arith))
+
+pub returns-in-Err : goal.returns-in-Err
+returns-in-Err c =
+    let t = c.args.trace.now in
+    let budget = c.args.budget in
+    let l = c.loop-stop in
+    let i = l.invariant in
+    let r : Run = run (progress_of l.state (so_far l.running) true) l.mem in
+    let turn : run (progress_of c.once.new.state (stopped (so_far c.once.new.self) c.in-Err.stop) false) c.once.new.mem ≡ once_of t budget r =
+    rw (c.in-Err.is, i.trace, i.budget) at c.once.ensures.0 in
+    rw c.report-in-Err.ensures (turn ∙ stops_here t budget r refl i.sound.place (ap (λ (q : Run). q.progress.going) (sym turn)) ∙ i.same)
+
+pub loop-stop-smaller : goal.loop-stop-smaller
+loop-stop-smaller c =
+    let t = c.args.trace.now in
+    let budget = c.args.budget in
+    let l = c.loop-stop in
+    let i = l.invariant in
+    let r : Run = run (progress_of l.state (so_far l.running) true) l.mem in
+    let turn : run (progress_of c.once.new.state (so_far c.once.new.self) true) c.once.new.mem ≡ once_of t budget r =
+    rw (c.in_default.is, i.trace, i.budget) at c.once.ensures.0 in
+    subst (λ (q : Run). length t - place q < length t - place r) (sym turn)
+    (goes_on t budget r refl i.sound.place (ap (λ (q : Run). q.progress.going) (sym turn))).1
+
+pub loop-stop-preserved : goal.loop-stop-preserved
+loop-stop-preserved c =
+    let t = c.args.trace.now in
+    let budget = c.args.budget in
+    let l = c.loop-stop in
+    let i = l.invariant in
+    let r : Run = run (progress_of l.state (so_far l.running) true) l.mem in
+    let turn : run (progress_of c.once.new.state (so_far c.once.new.self) true) c.once.new.mem ≡ once_of t budget r =
+    rw (c.in_default.is, i.trace, i.budget) at c.once.ensures.0 in
+    record {
+      trace = c.once.ensures.1.trace ∙ i.trace;
+      budget = c.once.ensures.1.budget ∙ i.budget;
+      sound = subst (λ (q : Run). Sound t budget q.progress.report) (sym turn) (once_sound t budget r i.sound);
+      same =
+          ap (λ (q : Run). ended t budget q) turn
+          ∙ (goes_on t budget r refl i.sound.place (ap (λ (q : Run). q.progress.going) (sym turn))).0
+          ∙ i.same;
+    }
