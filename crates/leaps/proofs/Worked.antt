@@ -7,7 +7,6 @@ use lib.Dec.{lit<}
 use lib.IntN.{ℤ, pos, negsuc}
 use lib.ListN.{get_or, length}
 use Prim.{tt}
-use Rattle.std.specs.Result.{result_unwrap_or}
 use Rattle.numbers.specs.Signed.{word_of}
 use Rattle.words.specs.Word.{bit_of}
 use Rattle.lists.specs.Checks.{Row, right, row}
@@ -24,7 +23,7 @@ use Rattle.lines.specs.Leap.{leap_phases, low_phases, phase_after, rises_in}
 use Rattle.watchdogs.specs.Leap.{leap_watchdogs, watchdog_after}
 use Rattle.watchdogs.specs.Watchdog.{watchdog_of}
 use Rattle.registers.specs.Calls.{Call, after, tag, tick, write}
-use Rattle.reading.specs.Read.{read_of}
+use Rattle.reading.specs.Read.{read_of, word_shown}
 use Rattle.device.specs.State.{machine, memory0, power_up}
 use Rattle.registers.proofs.Cases.{asked, counting}
 use Rattle.registers.proofs.Computing as registers
@@ -144,7 +143,7 @@ abbrev stretches : List Call → ℕ → ℕ → ℕ → ℕ
 stretches l left inputs gatelevels = stretch_of (after l).state left inputs gatelevels
 
 abbrev leapt : List Call → ℕ → ℕ → ℕ → ℕ
-leapt l k gatelevels a = result_unwrap_or (read_of (machine (leap_of k (after l).state gatelevels) memory0) a) 0
+leapt l k gatelevels a = word_shown (read_of (machine (leap_of k (after l).state gatelevels) memory0) a)
 
 unfoldable pub crate_rows : List Row
 crate_rows =
