@@ -4,7 +4,7 @@ use native.Mathlib.Nat.{lt_of_lt_of_le, mod-lt}
 use native.Mathlib.Omega.{arith}
 use mathlib.Core.Bool.{Bool, false, not, ◌&&◌, false≢true, true≢false}
 use mathlib.Core.List.{List, [], ◌∷◌}
-use mathlib.Core.Path.{◌≡◌, refl, sym, ap, ◌∙◌}
+use mathlib.Core.Path.{◌≡◌, refl, sym, ap, subst, ◌∙◌}
 use borrow.Author.Tests.{eq-eqb, eqb-false, eqb-true, ltb-false, ltb-true, ne_eqb}
 use lib.Dec.{eqb, ltb}
 use lib.ListN.{get_or, length, length-set, get_or-eq_default, set}
@@ -44,11 +44,11 @@ use Rattle.registers.specs.Calls.{Call, tick, write, tag, download, after, answe
 use Rattle.interlocks.specs.Interlock.{interlocks, other_signals, output_count, selected, signals, trips, trips_by}
 use Rattle.device.specs.Map.{backplane_map, below, control_map, counter_map, decode_of, event_map, kept, output_block, output_words, status_map}
 use Rattle.reading.specs.Read.{answer_for, half_of, low_first, read_of, setting_word, status_word, with_word, word_in}
-use Rattle.device.specs.State.{Machine, power_up, with_counters, with_gates, with_rest, with_state}
+use Rattle.device.specs.State.{Machine, power_up, with_counters, with_gates, with_groups, with_memory, with_rest, with_state}
 use Rattle.tagging.specs.Tag.{command_of, commanded, events_on, noted_in, right_key, tag_of}
 use Rattle.ticking.specs.Tick.{rest_tick, tick_of}
 use Rattle.lines.specs.Lines.{bad_levels}
-use Rattle.writing.specs.Write.{control_write, enable_write, key_write, on_common, on_gates, reload_answer, reload_write, requested, reset_by, rest_write}
+use Rattle.writing.specs.Write.{control_write, enable_write, key_write, on_common, on_counters, on_gates, reload_answer, reload_write, requested, reset_by, rest_write}
 use Rattle.writing.specs.Write.{triggers, with_reload, write_answer, write_at}
 use Rattle.registers.proofs.Whole.{full, step_called}
 use Rattle.sheet.specs.Follows.{follows}
@@ -243,23 +243,25 @@ read_back l a w e =
 
 -- ---- the other registers: part by part, what a write to r leaves as it was
 
--- one element is written, and f sees no difference
-set_same : {A B : Type 0} (f : A → B) (xs : List A) (i : ℕ) (a d : A) → i < length xs → f a ≡ f (get_or xs i d) →
-    (j : ℕ) → f (get_or (set xs i a) j d) ≡ f (get_or xs j d)
-set_same f xs i a d h e j =
+-- one element is written: P holds there, and of the others as they stand
+set_at : {A : Type 0} (P : ℕ → A → Type 0) (xs : List A) (i : ℕ) (a d : A) → i < length xs → P i a → ((j : ℕ) → P j (get_or xs j d)) →
+    (j : ℕ) → P j (get_or (set xs i a) j d)
+set_at P xs i a d h p q j =
     cases (eqb j i)
-    (λ p. rw (eqb-true j i p) (ap f (get_or-set_same xs i a d h) ∙ e))
-    (λ p. ap f (get_or-set_other xs i j a d (eqb-false j i p)))
+    (λ e. rw (eqb-true j i e, get_or-set_same xs i a d h) p)
+    (λ e. rw (get_or-set_other xs i j a d (eqb-false j i e)) (q j))
 
--- every element steps, and f sees no difference at i
-each_same : {A B : Type 0} (f : A → B) (n : ℕ) (d : A) (g : ℕ → A → A) (xs : List A) → length xs ≡ n → (i : ℕ) →
-    f (g i (get_or xs i d)) ≡ f (get_or xs i d) → f (get_or (each n d g xs) i d) ≡ f (get_or xs i d)
-each_same f n d g xs size i e =
+-- every element steps: P holds of what it becomes, and of what stands past the end
+each_at : {A : Type 0} (P : ℕ → A → Type 0) (n : ℕ) (d : A) (g : ℕ → A → A) (xs : List A) → length xs ≡ n →
+    ((i : ℕ) → P i (g i (get_or xs i d))) → ((i : ℕ) → P i (get_or xs i d)) → (i : ℕ) → P i (get_or (each n d g xs) i d)
+each_at P n d g xs size p q i =
     cases (ltb i n)
-    (λ p. ap f (get_or_each n d g xs i (ltb-true i n p)) ∙ e)
-    (λ p.
-    let h : n ≤ i = ltb-false i n p in
-    ap f (get_or-eq_default (each n d g xs) d (omega (arith, length_each n d g xs)) ∙ sym (get_or-eq_default xs d (omega arith))))
+    (λ e. rw (get_or_each n d g xs i (ltb-true i n e)) (p i))
+    (λ e.
+    let h : n ≤ i = ltb-false i n e in
+    let past : get_or xs i d ≡ get_or (each n d g xs) i d =
+    get_or-eq_default xs d (omega arith) ∙ sym (get_or-eq_default (each n d g xs) d (omega (arith, length_each n d g xs))) in
+    subst (P i) past (q i))
 
 record CommonApart (r : Register) (x y : Common) : Type 0 where
   control : (r ≡ Control → ⊥) → x.control ≡ y.control
@@ -268,21 +270,21 @@ record CommonApart (r : Register) (x y : Common) : Type 0 where
   reload : (r ≡ Reload → ⊥) → x.reload ≡ y.reload
   busy : busy x.loader ≡ busy y.loader
 
-record GatesApart (r : Register) (x y : List Gate) : Type 0 where
-  mode : (r ≡ Mode → ⊥) → (g : ℕ) → (gate_at x g).mode ≡ (gate_at y g).mode
-  prepare : (r ≡ Prepare → ⊥) → (g : ℕ) → (gate_at x g).prepare ≡ (gate_at y g).prepare
-  recover : (r ≡ Recover → ⊥) → (g : ℕ) → (gate_at x g).recover ≡ (gate_at y g).recover
-  timeout : (g : ℕ) → (r ≡ Timeout g → ⊥) → (gate_at x g).timeout ≡ (gate_at y g).timeout
-  state : (g : ℕ) → (gate_at x g).state ≡ (gate_at y g).state
-  output : (g : ℕ) → (gate_at x g).output ≡ (gate_at y g).output
+record GateApart (r : Register) (g : ℕ) (x y : Gate) : Type 0 where
+  mode : (r ≡ Mode → ⊥) → x.mode ≡ y.mode
+  prepare : (r ≡ Prepare → ⊥) → x.prepare ≡ y.prepare
+  recover : (r ≡ Recover → ⊥) → x.recover ≡ y.recover
+  timeout : (r ≡ Timeout g → ⊥) → x.timeout ≡ y.timeout
+  state : x.state ≡ y.state
+  output : x.output ≡ y.output
 
-record CountersApart (r : Register) (x y : List Counter) : Type 0 where
-  count : (k : ℕ) → follows r (Readout (Count k)) ≡ false → (n : ℕ) → (counter_at x n).count ≡ (counter_at y n).count
-  under : (k : ℕ) → follows r (Readout (Negative k)) ≡ false → (n : ℕ) → is_under (counter_at x n) ≡ is_under (counter_at y n)
-  over : (k : ℕ) → follows r (Readout (Positive k)) ≡ false → (n : ℕ) → is_over (counter_at x n) ≡ is_over (counter_at y n)
-  positive : (n : ℕ) → (counter_at x n).positive ≡ (counter_at y n).positive
-  negative : (n : ℕ) → (counter_at x n).negative ≡ (counter_at y n).negative
-  input : (n : ℕ) → (r ≡ Input n → ⊥) → (counter_at x n).input ≡ (counter_at y n).input
+record CounterApart (r : Register) (n : ℕ) (x y : Counter) : Type 0 where
+  count : (k : ℕ) → follows r (Readout (Count k)) ≡ false → x.count ≡ y.count
+  under : (k : ℕ) → follows r (Readout (Negative k)) ≡ false → is_under x ≡ is_under y
+  over : (k : ℕ) → follows r (Readout (Positive k)) ≡ false → is_over x ≡ is_over y
+  positive : x.positive ≡ y.positive
+  negative : x.negative ≡ y.negative
+  input : (r ≡ Input n → ⊥) → x.input ≡ y.input
 
 record RestApart (r : Register) (x y : Rest) : Type 0 where
   masks : (k : ℕ) → (r ≡ Other (Mask k) → ⊥) → get_or x.masks k 0 ≡ get_or y.masks k 0
@@ -294,6 +296,12 @@ record RestApart (r : Register) (x y : Rest) : Type 0 where
   rawcounts : x.rawcounts ≡ y.rawcounts
   gatelevels : x.gatelevels ≡ y.gatelevels
   events : x.events ≡ y.events
+
+abbrev GatesApart : Register → List Gate → List Gate → Type 0
+GatesApart r x y = (g : ℕ) → GateApart r g (gate_at x g) (gate_at y g)
+
+abbrev CountersApart : Register → List Counter → List Counter → Type 0
+CountersApart r x y = (n : ℕ) → CounterApart r n (counter_at x n) (counter_at y n)
 
 record Apart (r : Register) (m n : Machine) : Type 0 where
   common : CommonApart r m.state.common n.state.common
@@ -310,23 +318,23 @@ status_apart : (r : Register) (m n : Machine) → Apart r m n → (q : Status) �
     status_word m.state q ≡ status_word n.state q
 unfolding status_word overflow_word gate_bits outputs_of state_word
 status_apart r m n h (Module k) f = refl
-status_apart r m n h (Negative k) f = λ i. pack 16 (λ b. h.counters.under k f (16 * k + b) i)
-status_apart r m n h (Positive k) f = λ i. pack 16 (λ b. h.counters.over k f (16 * k + b) i)
-status_apart r m n h GateErrors f = λ i. pack 12 (λ g. is_error (h.gates.state g i))
+status_apart r m n h (Negative k) f = λ i. pack 16 (λ b. (h.counters (16 * k + b)).under k f i)
+status_apart r m n h (Positive k) f = λ i. pack 16 (λ b. (h.counters (16 * k + b)).over k f i)
+status_apart r m n h GateErrors f = λ i. pack 12 (λ g. is_error ((h.gates g).state i))
 status_apart r m n h (WatchdogErrors k) f = h.rest.errors k f
 status_apart r m n h GateInputs f = h.rest.gatelevels
-status_apart r m n h GateOutputs f = λ i. pack 12 (λ g. h.gates.output g i)
+status_apart r m n h GateOutputs f = λ i. pack 12 (λ g. (h.gates g).output i)
 status_apart r m n h Outputs f = h.outputs f
-status_apart r m n h (GateStates k) f = λ i. fields 4 4 (λ j. state_number (h.gates.state (4 * k + j) i))
+status_apart r m n h (GateStates k) f = λ i. fields 4 4 (λ j. state_number ((h.gates (4 * k + j)).state i))
 status_apart r m n h TagLow f = λ i. (h.rest.events i).low
 status_apart r m n h TagHigh f = λ i. (h.rest.events i).high
 status_apart r m n h Code f = λ i. (h.rest.events i).code
 status_apart r m n h LoaderState f = λ i. pick (h.common.busy i) 3 0
 status_apart r m n h LoaderCounter f = λ i. (h.rest.events i).handled
-status_apart r m n h (Count k) f = λ i. half_of k (h.counters.count k f (k / 2) i)
+status_apart r m n h (Count k) f = λ i. half_of k ((h.counters (k / 2)).count k f i)
 status_apart r m n h (Raw k) f = λ i. low_first k (raw_at (h.rest.rawcounts i) (k / 2))
 status_apart r m n h (Threshold k) f =
-    λ i. half_of k (pick (ltb (k % 4) 2) (h.counters.positive (k / 4) i) (h.counters.negative (k / 4) i))
+    λ i. half_of k (pick (ltb (k % 4) 2) ((h.counters (k / 4)).positive i) ((h.counters (k / 4)).negative i))
 
 setting_apart : (r : Register) (m n : Machine) → Apart r m n → (q : Setting) → (r ≡ Other q → ⊥) →
     setting_word m.state q ≡ setting_word n.state q
@@ -342,33 +350,16 @@ word_apart r m n h Nothing d f = refl
 word_apart r m n h (Readout q) d f = status_apart r m n h q f
 word_apart r m n h (Other q) d f = setting_apart r m n h q d
 word_apart r m n h Control d f = h.common.control d
-word_apart r m n h Mode d f = λ i. pack 12 (λ g. h.gates.mode d g i)
-word_apart r m n h (Timeout g) d f = h.gates.timeout g d
+word_apart r m n h Mode d f = λ i. pack 12 (λ g. (h.gates g).mode d i)
+word_apart r m n h (Timeout g) d f = (h.gates g).timeout d
 word_apart r m n h Key d f = h.common.key d
 word_apart r m n h Enable d f = h.common.enable d
 word_apart r m n h Reload d f = h.common.reload d
-word_apart r m n h Prepare d f = λ i. pack 12 (λ g. h.gates.prepare d g i)
-word_apart r m n h Recover d f = λ i. pack 12 (λ g. h.gates.recover d g i)
-word_apart r m n h (Input n₁) d f = h.counters.input n₁ d
+word_apart r m n h Prepare d f = λ i. pack 12 (λ g. (h.gates g).prepare d i)
+word_apart r m n h Recover d f = λ i. pack 12 (λ g. (h.gates g).recover d i)
+word_apart r m n h (Input n₁) d f = (h.counters n₁).input d
 word_apart r m n h (Group k) d f = h.groups k d
 word_apart r m n h (Word i) d f = h.words i d
-
--- a part that is not written
-
-common_kept : (r : Register) (x : Common) → CommonApart r x x
-common_kept r x = assumption
-
-gates_kept : (r : Register) (x : List Gate) → GatesApart r x x
-gates_kept r x = assumption
-
-counters_kept : (r : Register) (x : List Counter) → CountersApart r x x
-counters_kept r x = assumption
-
-rest_kept : (r : Register) (x : Rest) → RestApart r x x
-rest_kept r x = assumption
-
-apart_kept : (r : Register) (m : Machine) → Apart r m m
-apart_kept r m = assumption
 
 -- interlocks look at overflows, gate states, selections, watchdogs and gate levels
 
@@ -392,99 +383,84 @@ outputs_gates s x e = λ i.
     pick (ltb k 8) (overflow_word is_under s.counters k)
     (pick (ltb k 16) (overflow_word is_over s.counters (k - 8)) (other_signals (pack 12 (λ g. is_error (e g i))) s.rest k)))
 
--- one part is written
+-- one part is written, and the others are as they were
 
-apart_common : (r : Register) (m : Machine) (x : Common) → CommonApart r x m.state.common → Apart r (on_common m x) m
-unfolding interlocks trips signals
-apart_common r m x h = assumption
+module _ (r : Register) (m : Machine) where
+  apart_kept : Apart r m m
+  apart_kept = assumption
 
-apart_gates : (r : Register) (m : Machine) (x : List Gate) → GatesApart r x m.state.gates → Apart r (on_gates m x) m
-apart_gates r m x h = assumption (outputs_gates m.state x h.state)
+  apart_common : (x : Common) → CommonApart r x m.state.common → Apart r (on_common m x) m
+  unfolding interlocks trips signals
+  apart_common x h = assumption
 
-apart_rest : (r : Register) (m : Machine) (x : Rest) → RestApart r x m.state.rest →
-    (follows r (Readout Outputs) ≡ false → interlocks (with_rest m.state x) ≡ interlocks m.state) →
-    Apart r (with_state m (with_rest m.state x)) m
-apart_rest r m x h o = assumption
+  apart_gates : (x : List Gate) → GatesApart r x m.state.gates → Apart r (on_gates m x) m
+  apart_gates x h = assumption (outputs_gates m.state x (λ g. (h g).state))
+
+  apart_counters : (x : List Counter) → CountersApart r x m.state.counters →
+      (follows r (Readout Outputs) ≡ false → interlocks (with_counters m.state x) ≡ interlocks m.state) → Apart r (on_counters m x) m
+  apart_counters x h o = assumption
+
+  apart_rest : (x : Rest) → RestApart r x m.state.rest →
+      (follows r (Readout Outputs) ≡ false → interlocks (with_rest m.state x) ≡ interlocks m.state) → Apart r (with_state m (with_rest m.state x)) m
+  apart_rest x h o = assumption
+
+  apart_groups : (x : List ℕ) → ((k : ℕ) → (r ≡ Group k → ⊥) → get_or x k 0 ≡ get_or m.state.groups k 0) → Apart r (with_state m (with_groups m.state x)) m
+  unfolding interlocks trips signals
+  apart_groups x h = assumption
+
+  apart_memory : (x : List ℕ) → ((i : ℕ) → (r ≡ Word i → ⊥) → word_at x i ≡ word_at m.memory i) → Apart r (with_memory m x) m
+  apart_memory x h = assumption
 
 -- a bit of each gate, or one gate's timeout
 
-gate_same : {A : Type 0} (f : Gate → A) (g : Bool → Gate → Gate) → ((b : Bool) (x : Gate) → f (g b x) ≡ f x) → (w : ℕ) (gates : List Gate) →
-    length gates ≡ 12 → (i : ℕ) → f (gate_at (each_gate g w gates) i) ≡ f (gate_at gates i)
+bits_apart : (r : Register) (f : Bool → Gate → Gate) → ((b : Bool) (g : ℕ) (x : Gate) → GateApart r g (f b x) x) → (w : ℕ) (gates : List Gate) →
+    length gates ≡ 12 → GatesApart r (each_gate f w gates) gates
 unfolding each_gate gate_at
-gate_same f g e w gates size i = each_same f 12 gate0 (λ j. g (bit w j)) gates size i (e (bit w i) (get_or gates i gate0))
+bits_apart r f p w gates size =
+    each_at (λ g x. GateApart r g x (get_or gates g gate0)) 12 gate0 (λ g. f (bit w g)) gates size (λ g. p (bit w g) g (get_or gates g gate0))
+    (λ g. assumption)
 
-mode_apart : (w : ℕ) (gates : List Gate) → length gates ≡ 12 → GatesApart Mode (each_gate with_mode w gates) gates
-mode_apart w gates size = record {
-  mode = λ d. absurd (d refl);
-  prepare = λ d. gate_same prepare with_mode (λ b x. refl) w gates size;
-  recover = λ d. gate_same recover with_mode (λ b x. refl) w gates size;
-  timeout = λ g d. gate_same (λ x. x.timeout) with_mode (λ b x. refl) w gates size g;
-  state = gate_same (λ x. x.state) with_mode (λ b x. refl) w gates size;
-  output = gate_same output with_mode (λ b x. refl) w gates size;
-}
+mode_apart : (b : Bool) (g : ℕ) (x : Gate) → GateApart Mode g (with_mode b x) x
+mode_apart b g x = record { mode = λ d. absurd (d refl); prepare = λ d. refl; recover = λ d. refl; timeout = λ d. refl; state = refl; output = refl }
 
-prepare_apart : (w : ℕ) (gates : List Gate) → length gates ≡ 12 → GatesApart Prepare (each_gate with_prepare w gates) gates
-prepare_apart w gates size = record {
-  mode = λ d. gate_same mode with_prepare (λ b x. refl) w gates size;
-  prepare = λ d. absurd (d refl);
-  recover = λ d. gate_same recover with_prepare (λ b x. refl) w gates size;
-  timeout = λ g d. gate_same (λ x. x.timeout) with_prepare (λ b x. refl) w gates size g;
-  state = gate_same (λ x. x.state) with_prepare (λ b x. refl) w gates size;
-  output = gate_same output with_prepare (λ b x. refl) w gates size;
-}
+prepare_apart : (b : Bool) (g : ℕ) (x : Gate) → GateApart Prepare g (with_prepare b x) x
+prepare_apart b g x = record { mode = λ d. refl; prepare = λ d. absurd (d refl); recover = λ d. refl; timeout = λ d. refl; state = refl; output = refl }
 
-recover_apart : (w : ℕ) (gates : List Gate) → length gates ≡ 12 → GatesApart Recover (each_gate with_recover w gates) gates
-recover_apart w gates size = record {
-  mode = λ d. gate_same mode with_recover (λ b x. refl) w gates size;
-  prepare = λ d. gate_same prepare with_recover (λ b x. refl) w gates size;
-  recover = λ d. absurd (d refl);
-  timeout = λ g d. gate_same (λ x. x.timeout) with_recover (λ b x. refl) w gates size g;
-  state = gate_same (λ x. x.state) with_recover (λ b x. refl) w gates size;
-  output = gate_same output with_recover (λ b x. refl) w gates size;
-}
+recover_apart : (b : Bool) (g : ℕ) (x : Gate) → GateApart Recover g (with_recover b x) x
+recover_apart b g x = record { mode = λ d. refl; prepare = λ d. refl; recover = λ d. absurd (d refl); timeout = λ d. refl; state = refl; output = refl }
 
 timeout_apart : (g t : ℕ) (gates : List Gate) → g < length gates →
     GatesApart (Timeout g) (set gates g (with_timeout t (gate_at gates g))) gates
 unfolding gate_at
-timeout_apart g t gates h = record {
-  mode = λ d. set_same mode gates g _ gate0 h refl;
-  prepare = λ d. set_same prepare gates g _ gate0 h refl;
-  recover = λ d. set_same recover gates g _ gate0 h refl;
-  timeout = λ j d. ap (λ (x : Gate). x.timeout) (get_or-set_other gates g j _ gate0 (λ p. d (ap (λ (k : ℕ). Timeout k) (sym p))));
-  state = set_same (λ x. x.state) gates g _ gate0 h refl;
-  output = set_same output gates g _ gate0 h refl;
-}
+timeout_apart g t gates h =
+    set_at (λ j x. GateApart (Timeout g) j x (get_or gates j gate0)) gates g _ gate0 h
+    (record { mode = λ d. refl; prepare = λ d. refl; recover = λ d. refl; timeout = λ d. absurd (d refl); state = refl; output = refl })
+    (λ j. assumption)
 
 -- RESET, or one counter's input register
 
-reset_same : {A : Type 0} (f : Counter → A) → ((x : Counter) → f (cleared x) ≡ f x) → (w : ℕ) (xs : List Counter) → length xs ≡ 128 →
-    (n : ℕ) → f (counter_at (reset_by w xs) n) ≡ f (counter_at xs n)
-unfolding reset_by clear_counters counter_at
-reset_same f e w xs size n =
-    both (λ (ys : List Counter). f (get_or ys n counter0) ≡ f (get_or xs n counter0)) (reset_on w)
-    (each_same f 128 counter0 (λ k. cleared) xs size n (e (get_or xs n counter0)))
-    refl
-
 control_apart : (w : ℕ) (xs : List Counter) → length xs ≡ 128 → CountersApart Control (reset_by w xs) xs
-control_apart w xs size = record {
-  count = λ k f. absurd (true≢false f);
-  under = λ k f. absurd (true≢false f);
-  over = λ k f. absurd (true≢false f);
-  positive = reset_same (λ x. x.positive) (λ x. refl) w xs size;
-  negative = reset_same (λ x. x.negative) (λ x. refl) w xs size;
-  input = λ n d. reset_same (λ x. x.input) (λ x. refl) w xs size n;
-}
+unfolding reset_by clear_counters counter_at
+control_apart w xs size n =
+    both (λ (ys : List Counter). CounterApart Control n (get_or ys n counter0) (get_or xs n counter0)) (reset_on w)
+    (each_at (λ n x. CounterApart Control n x (get_or xs n counter0)) 128 counter0 (λ k. cleared) xs size
+    (λ i. record {
+      count = λ k f. absurd (true≢false f);
+      under = λ k f. absurd (true≢false f);
+      over = λ k f. absurd (true≢false f);
+      positive = refl;
+      negative = refl;
+      input = λ d. refl;
+    })
+    (λ i. assumption) n)
+    (assumption)
 
 input_apart : (n t : ℕ) (xs : List Counter) → n < length xs → CountersApart (Input n) (set xs n (with_input (counter_at xs n) t)) xs
 unfolding counter_at
-input_apart n t xs h = record {
-  count = λ k f. set_same (λ x. x.count) xs n _ counter0 h refl;
-  under = λ k f. set_same is_under xs n _ counter0 h refl;
-  over = λ k f. set_same is_over xs n _ counter0 h refl;
-  positive = set_same (λ x. x.positive) xs n _ counter0 h refl;
-  negative = set_same (λ x. x.negative) xs n _ counter0 h refl;
-  input = λ j d. ap (λ (x : Counter). x.input) (get_or-set_other xs n j _ counter0 (λ p. d (ap (λ (k : ℕ). Input k) (sym p))));
-}
+input_apart n t xs h =
+    set_at (λ j x. CounterApart (Input n) j x (get_or xs j counter0)) xs n _ counter0 h
+    (record { count = λ k f. refl; under = λ k f. refl; over = λ k f. refl; positive = refl; negative = refl; input = λ d. absurd (d refl) })
+    (λ j. assumption)
 
 -- the registers that all counters share
 
@@ -525,61 +501,35 @@ watchdogs_apart : (f : Watchdog → Bool) (k w : ℕ) (xs : List Watchdog) → l
 unfolding watchdog_word reset_watchdogs watchdog_at reset_in
 watchdogs_apart f k w xs size j d =
     pack_ext 16 _ _ (λ b h.
-    each_same f 54 watchdog0 (reset_in k w) xs size (16 * j + b)
-    (let q : (16 * j + b) / 16 ≡ j = omega arith in rw (q, ne_eqb j k d) refl))
+    each_at (λ i x. i ≡ 16 * j + b → f x ≡ f (get_or xs i watchdog0)) 54 watchdog0 (reset_in k w) xs size
+    (λ i p. let q : i / 16 ≡ j = omega arith in rw (q, ne_eqb j k d) refl) (λ i p. refl) (16 * j + b) refl)
+
+-- one word of a list is written
+word_apart_from : (row : ℕ → Register) (xs : List ℕ) (k w : ℕ) (j : ℕ) → (row k ≡ row j → ⊥) → get_or (set xs k w) j 0 ≡ get_or xs j 0
+word_apart_from row xs k w j d = get_or-set_other xs k j w 0 (λ p. d (ap row (sym p)))
 
 mask_apart : (k w : ℕ) (x : Rest) → RestApart (Other (Mask k)) (rest_write (Mask k) w x) x
 unfolding rest_write
-mask_apart k w x = record {
-  masks = λ j d. get_or-set_other x.masks k j _ 0 (λ p. d (ap (λ (i : ℕ). Other (Mask i)) (sym p)));
-  timeout = λ d. refl;
-  resets = λ j d. refl;
-  selections = λ j d. refl;
-  errors = λ j f. refl;
-  rawcounts = refl;
-  gatelevels = refl;
-  events = refl;
-}
+mask_apart k w x = assumption (word_apart_from (λ i. Other (Mask i)) x.masks k (kept (Other (Mask k)) w))
 
 watchdog_timeout_apart : (w : ℕ) (x : Rest) → RestApart (Other WatchdogTimeout) (rest_write WatchdogTimeout w x) x
 unfolding rest_write
-watchdog_timeout_apart w x = record {
-  masks = λ k d. refl;
-  timeout = λ d. absurd (d refl);
-  resets = λ k d. refl;
-  selections = λ j d. refl;
-  errors = λ k f. refl;
-  rawcounts = refl;
-  gatelevels = refl;
-  events = refl;
-}
+watchdog_timeout_apart w x =
+    let t : (Other WatchdogTimeout ≡ Other WatchdogTimeout → ⊥) → kept (Other WatchdogTimeout) w ≡ x.timeout = λ d. absurd (d refl) in assumption
 
 watchdog_reset_apart : (k w : ℕ) (x : Rest) → RestSized x → RestApart (Other (WatchdogReset k)) (rest_write (WatchdogReset k) w x) x
 unfolding rest_write
-watchdog_reset_apart k w x s = record {
-  masks = λ j d. refl;
-  timeout = λ d. refl;
-  resets = λ j d.
-      watchdogs_apart reset_of k w x.watchdogs s.watchdogs j (λ p. d (ap (λ (i : ℕ). Other (WatchdogReset i)) (sym p)));
-  selections = λ j d. refl;
-  errors = λ j f. watchdogs_apart error_of k w x.watchdogs s.watchdogs j (eqb-false j k f);
-  rawcounts = refl;
-  gatelevels = refl;
-  events = refl;
-}
+watchdog_reset_apart k w x s =
+    let resets : (j : ℕ) → (Other (WatchdogReset k) ≡ Other (WatchdogReset j) → ⊥) →
+    watchdog_word reset_of (reset_watchdogs k w x.watchdogs) j ≡ watchdog_word reset_of x.watchdogs j =
+    λ j d. watchdogs_apart reset_of k w x.watchdogs s.watchdogs j (λ p. d (ap (λ (i : ℕ). Other (WatchdogReset i)) (sym p))) in
+    let errors : (j : ℕ) → eqb j k ≡ false → watchdog_word error_of (reset_watchdogs k w x.watchdogs) j ≡ watchdog_word error_of x.watchdogs j =
+    λ j f. watchdogs_apart error_of k w x.watchdogs s.watchdogs j (eqb-false j k f) in
+    assumption
 
 selection_apart : (k w : ℕ) (x : Rest) → RestApart (Other (Selection k)) (rest_write (Selection k) w x) x
 unfolding rest_write
-selection_apart k w x = record {
-  masks = λ j d. refl;
-  timeout = λ d. refl;
-  resets = λ j d. refl;
-  selections = λ j d. get_or-set_other x.selections k j _ 0 (λ p. d (ap (λ (i : ℕ). Other (Selection i)) (sym p)));
-  errors = λ j f. refl;
-  rawcounts = refl;
-  gatelevels = refl;
-  events = refl;
-}
+selection_apart k w x = assumption (word_apart_from (λ i. Other (Selection i)) x.selections k (kept (Other (Selection k)) w))
 
 setting_written : (m : Machine) → RestIn m → (r : Setting) (w : ℕ) →
     Apart (Other r) (with_state m (with_rest m.state (rest_write r w m.state.rest))) m
@@ -592,55 +542,27 @@ setting_written m h (Selection j) w = apart_rest _ m _ (selection_apart j w m.st
 
 apart_written : (m : Machine) → Sized m → RestIn m → (r : Register) → InMap r → (w : ℕ) → Apart r (write_at m r w) m
 unfolding write_at
-apart_written m s h Nothing l w = apart_kept Nothing m
-apart_written m s h (Readout r) l w = apart_kept (Readout r) m
 apart_written m s h (Other r) l w = setting_written m h r w
-apart_written m s h Control l w = record {
-  common = control_common w m.state.common;
-  gates = gates_kept Control m.state.gates;
-  counters = control_apart w m.state.counters s.counters;
-  rest = rest_kept Control m.state.rest;
-  groups = λ k d. refl;
-  words = λ i d. refl;
-  outputs = λ f. absurd (true≢false f);
-}
-apart_written m s h Mode l w = apart_gates Mode m _ (mode_apart w m.state.gates s.gates)
+apart_written m s h Control l w =
+    let c = apart_counters Control m _ (control_apart w m.state.counters s.counters) (λ f. absurd (true≢false f)) in
+    let common = control_common w m.state.common in
+    record
+    { common = common; gates = c.gates; counters = c.counters; rest = c.rest; groups = c.groups; words = c.words; outputs = λ f. absurd (true≢false f) }
+apart_written m s h Mode l w = apart_gates Mode m _ (bits_apart Mode with_mode mode_apart w m.state.gates s.gates)
 apart_written m s h (Timeout g) l w =
     apart_gates (Timeout g) m _ (timeout_apart g (kept (Timeout g) w) m.state.gates (omega (arith, s.gates)))
 apart_written m s h Key l w = apart_common Key m _ (key_apart w m.state.common)
 apart_written m s h Enable l w = apart_common Enable m _ (enable_apart w m.state.common)
 apart_written m s h Reload l w = apart_common Reload m _ (reload_apart w m.state.common)
-apart_written m s h Prepare l w = apart_gates Prepare m _ (prepare_apart w m.state.gates s.gates)
-apart_written m s h Recover l w = apart_gates Recover m _ (recover_apart w m.state.gates s.gates)
+apart_written m s h Prepare l w = apart_gates Prepare m _ (bits_apart Prepare with_prepare prepare_apart w m.state.gates s.gates)
+apart_written m s h Recover l w = apart_gates Recover m _ (bits_apart Recover with_recover recover_apart w m.state.gates s.gates)
 apart_written m s h (Input n) l w =
     let c = input_apart n (kept (Input n) w) m.state.counters (omega (arith, s.counters)) in
-    record {
-      common = common_kept (Input n) m.state.common;
-      gates = gates_kept (Input n) m.state.gates;
-      counters = c;
-      rest = rest_kept (Input n) m.state.rest;
-      groups = λ k d. refl;
-      words = λ i d. refl;
-      outputs = λ f. outputs_counters m.state _ (c.under 0 refl) (c.over 0 refl);
-    }
-apart_written m s h (Group k) l w = record {
-  common = common_kept (Group k) m.state.common;
-  gates = gates_kept (Group k) m.state.gates;
-  counters = counters_kept (Group k) m.state.counters;
-  rest = rest_kept (Group k) m.state.rest;
-  groups = λ j d. get_or-set_other m.state.groups k j _ 0 (λ p. d (ap (λ (i : ℕ). Group i) (sym p)));
-  words = λ i d. refl;
-  outputs = λ f. unfold interlocks trips signals in refl;
-}
-apart_written m s h (Word i) l w = record {
-  common = common_kept (Word i) m.state.common;
-  gates = gates_kept (Word i) m.state.gates;
-  counters = counters_kept (Word i) m.state.counters;
-  rest = rest_kept (Word i) m.state.rest;
-  groups = λ k d. refl;
-  words = λ j d. unfold word_at in (get_or-set_other m.memory i j _ 0 (λ p. d (ap (λ (k : ℕ). Word k) (sym p))));
-  outputs = λ f. refl;
-}
+    apart_counters (Input n) m _ c (λ f. outputs_counters m.state _ (λ j. (c j).under 0 refl) (λ j. (c j).over 0 refl))
+apart_written m s h (Group k) l w = apart_groups (Group k) m _ (word_apart_from Group m.state.groups k (kept (Group k) w))
+apart_written m s h (Word i) l w =
+    apart_memory (Word i) m _ (unfold word_at in (word_apart_from Word m.memory i (kept (Word i) w)))
+apart_written m s h r l w = apart_kept r m
 
 -- and a read of any other register gives what it gave, but for the side effects that `follows` names
 other_register : (l : List Call) (a w b : ℕ) → (decode_of a ≡ decode_of b → ⊥) → follows (decode_of a) (decode_of b) ≡ false →
