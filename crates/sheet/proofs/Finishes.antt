@@ -35,6 +35,7 @@ use Rattle.registers.proofs.Whole.{full, step_called}
 use Rattle.sheet.specs.Reachable.{CommonInRange, LoaderInRange}
 use Rattle.sheet.specs.Requests.{Stand, Stands, finished, loading, made_by, past, queued, request_made, stand_after, stand_step, stand_tick, ticks_at_work, ticks_left, waits, works}
 use Rattle.sheet.proofs.Addresses.{decode_reload}
+use Rattle.sheet.proofs.Changes.{list_keeps, tag_by}
 use Rattle.sheet.proofs.InRange.{taken}
 use Rattle.sheet.proofs.Reached.{common_start, common_tick_in, control_in, enable_in, key_in, reload_in, tag_request_in}
 
@@ -157,16 +158,9 @@ write_apart m Reload w = (reload_still w m.state.common, reload_in w m.state.com
 write_apart m r w = unmoved m
 
 tag_apart : (m : Machine) (t : ℕ) → Apart m (with_state m (tag_of m.state t))
-unfolding tag_of commanded
 tag_apart m t =
-    let P : Crate → Type 0 = λ s. Apart m (with_state m s) in
-    both P (events_on m.state.common)
-    (both P (right_key m.state.common t)
-    (both P (eqb (command_of t) 1) (tag_still t m.state.common, tag_request_in t m.state.common)
-    (both P (eqb (command_of t) 2) (unmoved m)
-    (both P (eqb (command_of t) 3) (unmoved m) (both P (eqb (command_of t) 4) (unmoved m) (unmoved m)))))
-    (unmoved m))
-    (unmoved m)
+    tag_by (λ s. Apart m (with_state m s)) m.state t (unmoved m) (unmoved m) (tag_still t m.state.common, tag_request_in t m.state.common)
+    (unmoved m) (unmoved m) (unmoved m)
 
 -- ---- along a list
 
@@ -325,11 +319,6 @@ range_step m f (tag t) h = rw (step_called m f (tag t)) ((tag_apart m t).1 h)
 range_step m f (download d words) h =
     rw (step_called m f (download d words)) (both (λ (y : Machine). CommonInRange y.state.common) (is_done (download_answer d (length words))) h h)
 
-range_from : (m : Machine) → Full m → (l : List Call) → CommonInRange m.state.common → CommonInRange (from m l).state.common
-unfolding from
-range_from m f [] h = h
-range_from m f (x ∷ l) h = range_from (step m x) (full m f x) l (range_step m f x h)
-
 work_le : (l : Option Reloading) → ticks_at_work l ≤ 128
 work_le None = omega arith
 work_le (Some l) = omega arith
@@ -345,7 +334,8 @@ full_after l = full_from machine0 full_start l
 
 range_after : (l : List Call) → CommonInRange (after l).state.common
 unfolding after power_up
-range_after l = range_from machine0 full_start l common_start
+range_after l =
+    (list_keeps (λ m. Full m × CommonInRange m.state.common) (λ m h x. (full m h.0 x, range_step m h.0 x h.1)) machine0 (full_start, common_start) l).1
 
 module _ (l : List Call) (x : Call) (r : Request) (made : request_made (after l) x ≡ Some r) where
   due_after : (k : List Call) →

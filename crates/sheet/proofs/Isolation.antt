@@ -12,6 +12,7 @@ use Rattle.sheet.specs.Lines.{Holds, Lines, own_lines}
 use Rattle.sheet.specs.OwnPart.{Cut, Part, added, own, own_part}
 use Rattle.sheet.specs.Sheet.{Sheet, sheet0, sheet_after, sheet_from, sheet_shows}
 use Rattle.sheet.specs.Shows.{shown, shows}
+use Rattle.sheet.proofs.Changes.{list_keeps}
 use Rattle.sheet.proofs.Fed.{from_added, sheet_step_by}
 use Rattle.sheet.proofs.Kept.{fits, fits_start, holds_all, holds_both, holds_left, holds_none, holds_right, sized, sized_start}
 use Rattle.sheet.proofs.Projection.{Fits, Sized, sheet_in, start}
@@ -27,9 +28,7 @@ along S c c< m (x ∷ l) size fit h =
     ∙ rw one (sym (from_added c (sheet_in S c m) (own S c x) (own_part S c l)))
 
 pub sized_from : (m : Machine) → Sized m → (l : List Call) → Sized (from m l)
-unfolding from
-sized_from m s [] = s
-sized_from m s (x ∷ l) = sized_from (step m x) (sized m s x) l
+sized_from = list_keeps Sized sized
 
 fit_start : (S : Lines) (c : ℕ) → c < 128 → Fits S (sheet_in S c machine0).counter.input
 unfolding sheet0

@@ -18,7 +18,7 @@ use Rattle.loader.specs.declared.loader.Reload.{Reload as Reloading}
 use Rattle.counters.specs.Counter.{clear_counters, counter0, counter_step, counter_tick, down_of, gate_of, input0, reset_on, tick_counters, up_of}
 use Rattle.loader.specs.Loader.{group_at, takes, load_into}
 use Rattle.loader.specs.Memory.{loaded}
-use Rattle.gates.specs.Gate.{with_mode, with_prepare, with_recover}
+use Rattle.gates.specs.Gate.{with_mode, with_prepare, with_prepare_pulse, with_recover, with_recover_pulse}
 use Rattle.gates.proofs.Gates.{length_each_gate}
 use Rattle.device.specs.declared.map.Register.{Register}
 use Rattle.device.specs.declared.map.Register.TheVariants.{Nothing, Readout, Other, Control, Mode, Timeout, Key, Enable, Reload, Prepare, Recover, Input, Group, Word}
@@ -30,7 +30,7 @@ use Rattle.loader.specs.Memory.{is_whole}
 use Rattle.registers.specs.Calls.{Call, tick, write, tag, download, called, download_answer, machine0, step}
 use Rattle.device.specs.Map.{decode_of, kept}
 use Rattle.device.specs.State.{Machine, memory0, power_up, with_groups, with_memory, with_rest, with_state}
-use Rattle.tagging.specs.Tag.{command_of, commanded, events_on, noted_in, right_key, tag_of}
+use Rattle.tagging.specs.Tag.{tag_of}
 use Rattle.ticking.specs.Tick.{tick_of}
 use Rattle.lines.specs.Lines.{bad_levels}
 use Rattle.writing.specs.Write.{on_common, on_counters, on_gates, reset_by, write_at}
@@ -38,6 +38,7 @@ use Rattle.registers.proofs.Whole.{length_replaced}
 use Rattle.sheet.specs.Lines.{Holds, Lines, join, lines_at, lines_in, lines_of, no_lines}
 use Rattle.sheet.specs.OwnPart.{Part, ticked, patched, stored, controlled, keyed, enabled, reloaded, timed, grouped, moded, prepared, recovered, tagged, downloaded, is_own_word, own, own_at}
 use Rattle.sheet.specs.Sheet.{Sheet, sheet_command, sheet_load, sheet_step, sheet_tag, sheet_tick}
+use Rattle.sheet.proofs.Changes.{sheet_tag_by, tag_by}
 use Rattle.sheet.proofs.Fed.{sheet_step_by}
 use Rattle.sheet.proofs.Projection.{Fits, Sized}
 
@@ -97,21 +98,10 @@ sized_write m s r w = assumption
 abbrev SizedIn : Machine → Crate → Type 0
 SizedIn m s = Sized (with_state m s)
 
-sized_command : (m : Machine) → Sized m → (t : ℕ) → SizedIn m (commanded m.state t)
-unfolding commanded
-sized_command m s t =
-    both (SizedIn m) (eqb (command_of t) 1) (assumption)
-    (both (SizedIn m) (eqb (command_of t) 2) (sized_gates m s _ (length_each_gate _ _ m.state.gates))
-    (both (SizedIn m) (eqb (command_of t) 3) (sized_gates m s _ (length_each_gate _ _ m.state.gates))
-    (both (SizedIn m) (eqb (command_of t) 4) (sized_counters m s _ (length_cleared m.state.counters)) s)))
-
 sized_tag : (m : Machine) → Sized m → (t : ℕ) → SizedIn m (tag_of m.state t)
-unfolding tag_of
 sized_tag m s t =
-    let noted : SizedIn m (noted_in m.state t) = assumption in
-    both (SizedIn m) (events_on m.state.common)
-    (both (SizedIn m) (right_key m.state.common t) (sized_command (with_state m (noted_in m.state t)) noted t) noted)
-    s
+    tag_by (SizedIn m) m.state t (assumption) (assumption) (assumption) (assumption (length_each_gate with_prepare_pulse t m.state.gates))
+    (assumption (length_each_gate with_recover_pulse t m.state.gates)) (assumption (length_cleared m.state.counters))
 
 sized_called : (m : Machine) → Sized m → (x : Call) → Sized (called m x)
 unfolding called
@@ -244,14 +234,7 @@ module _ (S : Lines) (c : ℕ) (s : Sheet) (fit : Fits S s.counter.input) where
   fits_tick inputs gates = rw load_input (fits_step s.counter _ _ _ _ _ fit)
 
   fits_tag : (t : ℕ) → Fit (sheet_tag s t)
-  unfolding sheet_tag sheet_command
-  fits_tag t =
-      both Fit (events_on s.common)
-      (both Fit (right_key s.common t)
-      (both Fit (eqb (command_of t) 1) fit
-      (both Fit (eqb (command_of t) 2) fit (both Fit (eqb (command_of t) 3) fit (both Fit (eqb (command_of t) 4) fit fit))))
-      fit)
-      fit
+  fits_tag t = sheet_tag_by Fit s t fit fit fit fit fit
 
   pub fits_part : (p : Part) → Holds S (part_lines p) → Fit (sheet_step c s p)
   unfolding sheet_step

@@ -1,4 +1,5 @@
 pub mod Addresses
+pub mod Changes
 pub mod Computing
 pub mod Contracts
 pub mod Examples

@@ -27,11 +27,12 @@ use Rattle.registers.specs.Calls.{Call, tick, write, tag, download, after, calle
 use Rattle.device.specs.Map.{counter_map, decode_of}
 use Rattle.reading.specs.Read.{low_first, read_of, status_word, word_in}
 use Rattle.device.specs.State.{Machine, power_up, with_state}
-use Rattle.tagging.specs.Tag.{command_of, commanded, events_on, noted_in, right_key, tag_of}
+use Rattle.tagging.specs.Tag.{tag_of}
 use Rattle.ticking.specs.Tick.{rest_tick, tick_of}
 use Rattle.writing.specs.Write.{rest_write, write_at}
 use Rattle.registers.proofs.Whole.{full, step_called}
 use Rattle.sheet.specs.Raw.{levels_of, raw_count, rises_in}
+use Rattle.sheet.proofs.Changes.{tag_by}
 use Rattle.sheet.proofs.Isolation.{sized_from}
 use Rattle.sheet.proofs.Kept.{sized_start}
 
@@ -52,18 +53,8 @@ unfolding write_at
 left_write m (Other r) w = record { rawcounts = rawcounts_stay m r w; levels = refl }
 left_write m r w = assumption
 
-left_command : (s : Crate) (t : ℕ) → Left s (commanded s t)
-unfolding commanded
-left_command s t =
-    both (Left s) (eqb (command_of t) 1) (assumption)
-    (both (Left s) (eqb (command_of t) 2) (assumption)
-    (both (Left s) (eqb (command_of t) 3) (assumption) (both (Left s) (eqb (command_of t) 4) (assumption) (assumption))))
-
 left_tag : (s : Crate) (t : ℕ) → Left s (tag_of s t)
-unfolding tag_of
-left_tag s t =
-    let c = left_command (noted_in s t) t in
-    both (Left s) (events_on s.common) (both (Left s) (right_key s.common t) (assumption) (assumption)) (assumption)
+left_tag s t = tag_by (Left s) s t (assumption) (assumption) (assumption) (assumption) (assumption) (assumption)
 
 left_download : (m : Machine) (d : ℕ) (words : List ℕ) → Left m.state (called m (download d words)).state
 unfolding called

@@ -40,11 +40,12 @@ use Rattle.loader.specs.Memory.{is_whole}
 use Rattle.registers.specs.Calls.{Call, tick, write, tag, download, after, called, download_answer, from, machine0, step}
 use Rattle.device.specs.Map.{decode_of, kept, used_bits}
 use Rattle.device.specs.State.{Machine, common0, memory0, power_up, with_groups, with_memory, with_registers, with_rest, with_state}
-use Rattle.tagging.specs.Tag.{command_of, commanded, events_on, noted_in, right_key, tag_of, tag_request}
+use Rattle.tagging.specs.Tag.{noted_in, right_key, tag_of, tag_request}
 use Rattle.ticking.specs.Tick.{common_tick, rest_tick, tick_of}
 use Rattle.writing.specs.Write.{control_write, dataset_in, enable_write, group_in, key_write, on_common, on_counters, on_gates, reload_answer, reload_write, request_answer, requested, reset_by, rest_write, triggers, with_reload, write_at}
 use Rattle.registers.proofs.Whole.{accepted, length_replaced}
 use Rattle.sheet.specs.Reachable.{CommonInRange, CounterInRange, GateInRange, OfWords, Reached, RequestInRange, RestInRange}
+use Rattle.sheet.proofs.Changes.{tag_by}
 use Rattle.sheet.proofs.InRange.{cleared_in, counter0_in, gate_in_lem, input_in, handled_in, load_all, load_in, loader_in, phases_in, pushed_in, queue_in, request0_in, taken, tick_in, watchdog_in}
 
 -- the lowest n bits of a word are below 2 ^ n: no unused bit is stored
@@ -324,22 +325,15 @@ tag_control : (t : ℕ) (cm : Common) → (tag_request t cm).control ≡ cm.cont
 unfolding tag_request requested
 tag_control t cm = cases (is_done (request_answer cm.queue (dataset_in t))) (λ e. rw e refl) (λ e. rw e refl)
 
-reached_command : (m : Machine) → Reached m → (t : ℕ) → ReachedIn m (commanded m.state t)
-unfolding commanded
-reached_command m h t =
-    both (ReachedIn m) (eqb (command_of t) 1) (reached_common m h _ (tag_request_in t m.state.common h.common) (tag_control t m.state.common))
-    (both (ReachedIn m) (eqb (command_of t) 2)
-    (reached_gates m h _ (gates_in_lem with_prepare_pulse (λ b g h. assumption) t m.state.gates h.gates))
-    (both (ReachedIn m) (eqb (command_of t) 3)
-    (reached_gates m h _ (gates_in_lem with_recover_pulse (λ b g h. assumption) t m.state.gates h.gates))
-    (both (ReachedIn m) (eqb (command_of t) 4) (reached_clear m h) h)))
-
 reached_tag : (m : Machine) → Reached m → (t : ℕ) → ReachedIn m (tag_of m.state t)
-unfolding tag_of
 reached_tag m h t =
-    both (ReachedIn m) (events_on m.state.common)
-    (both (ReachedIn m) (right_key m.state.common t) (reached_command (with_state m (noted_in m.state t)) (noted_in_lem m h t) t) (noted_in_lem m h t))
-    h
+    let n = with_state m (noted_in m.state t) in
+    let r = noted_in_lem m h t in
+    tag_by (ReachedIn m) m.state t h r
+    (reached_common n r _ (tag_request_in t m.state.common h.common) (tag_control t m.state.common))
+    (reached_gates n r _ (gates_in_lem with_prepare_pulse (λ b g h. assumption) t m.state.gates h.gates))
+    (reached_gates n r _ (gates_in_lem with_recover_pulse (λ b g h. assumption) t m.state.gates h.gates))
+    (reached_clear n r)
 
 -- ---- downloads
 

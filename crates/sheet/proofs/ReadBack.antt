@@ -45,7 +45,7 @@ use Rattle.interlocks.specs.Interlock.{interlocks, other_signals, output_count, 
 use Rattle.device.specs.Map.{backplane_map, below, control_map, counter_map, decode_of, event_map, kept, output_block, output_words, status_map}
 use Rattle.reading.specs.Read.{answer_for, half_of, low_first, read_of, setting_word, status_word, with_word, word_in}
 use Rattle.device.specs.State.{Machine, power_up, with_counters, with_gates, with_groups, with_memory, with_rest, with_state}
-use Rattle.tagging.specs.Tag.{command_of, commanded, events_on, noted_in, right_key, tag_of}
+use Rattle.tagging.specs.Tag.{noted_in, tag_of}
 use Rattle.ticking.specs.Tick.{rest_tick, tick_of}
 use Rattle.lines.specs.Lines.{bad_levels}
 use Rattle.writing.specs.Write.{control_write, enable_write, key_write, on_common, on_counters, on_gates, reload_answer, reload_write, requested, reset_by, rest_write}
@@ -53,6 +53,7 @@ use Rattle.writing.specs.Write.{triggers, with_reload, write_answer, write_at}
 use Rattle.registers.proofs.Whole.{full, step_called}
 use Rattle.sheet.specs.Follows.{follows}
 use Rattle.sheet.proofs.Addresses.{InBlock, InMap, Placed, gap, named, address_of, in_map, placed}
+use Rattle.sheet.proofs.Changes.{list_keeps, tag_by}
 use Rattle.sheet.proofs.Isolation.{sized_from}
 use Rattle.sheet.proofs.Kept.{sized_start}
 use Rattle.sheet.proofs.Projection.{Sized}
@@ -87,21 +88,8 @@ unfolding tick_of rest_tick step_watchdogs
 rest_ticked s memory inputs gates h = record
     { masks = h.masks; selections = h.selections; watchdogs = length_each 54 watchdog0 _ s.rest.watchdogs }
 
-rest_noted : (s : Crate) (t : ℕ) → RestOf s → RestOf (noted_in s t)
-rest_noted s t h = assumption
-
-rest_commanded : (s : Crate) (t : ℕ) → RestOf s → RestOf (commanded s t)
-unfolding commanded
-rest_commanded s t h =
-    both RestOf (eqb (command_of t) 1) h
-    (both RestOf (eqb (command_of t) 2) h (both RestOf (eqb (command_of t) 3) h (both RestOf (eqb (command_of t) 4) h h)))
-
 rest_tagged : (s : Crate) (t : ℕ) → RestOf s → RestOf (tag_of s t)
-unfolding tag_of
-rest_tagged s t h =
-    both RestOf (events_on s.common)
-    (both RestOf (right_key s.common t) (rest_commanded (noted_in s t) t (rest_noted s t h)) (rest_noted s t h))
-    h
+rest_tagged s t h = let n : RestOf (noted_in s t) = assumption in tag_by RestOf s t h n n n n n
 
 rest_called : (m : Machine) → RestIn m → (x : Call) → RestIn (called m x)
 unfolding called
@@ -114,18 +102,13 @@ rest_step : (m : Machine) → RestIn m → (x : Call) → RestIn (step m x)
 unfolding step
 rest_step m h x = both RestIn (is_whole m.memory) (rest_called m h x) h
 
-rest_from : (m : Machine) → RestIn m → (l : List Call) → RestIn (from m l)
-unfolding from
-rest_from m h [] = h
-rest_from m h (x ∷ l) = rest_from (step m x) (rest_step m h x) l
-
 rest_start : RestIn machine0
 unfolding power_up
 rest_start = record { masks = length_tabulate 6 _; selections = length_tabulate 132 _; watchdogs = length_tabulate 54 _ }
 
 rest_after : (l : List Call) → RestIn (after l)
 unfolding after
-rest_after l = rest_from machine0 rest_start l
+rest_after = list_keeps RestIn rest_step machine0 rest_start
 
 sized_after : (l : List Call) → Sized (after l)
 unfolding after

@@ -37,6 +37,7 @@ use Rattle.writing.specs.Write.{control_write, dataset_in, enable_write, key_wri
 use Rattle.sheet.specs.OwnPart.{Part, ticked, patched, stored, controlled, keyed, enabled, reloaded, timed, grouped, moded, prepared, recovered, tagged, downloaded}
 use Rattle.sheet.specs.Settled.{all_pulsed, every, has_four, idle_command, idle_tag, prepare_pulse, recover_pulse, repeats, settled, settled_from}
 use Rattle.sheet.specs.Sheet.{Sheet, put_common, put_counter, put_four, put_gates, put_group, put_memory, reset_counter, sheet0, sheet_after, sheet_command, sheet_from, sheet_load, sheet_step, sheet_tag, sheet_tick}
+use Rattle.sheet.proofs.Changes.{sheet_tag_by}
 use Rattle.sheet.proofs.Reached.{control_stays}
 
 -- what every sheet from power-up has: its lists' lengths, and count 0 while RESET is set
@@ -205,17 +206,10 @@ request_control : (t : ℕ) (cm : Common) → (tag_request t cm).control ≡ cm.
 unfolding tag_request requested
 request_control t cm = cases (is_done (request_answer cm.queue (dataset_in t))) (λ e. rw e refl) (λ e. rw e refl)
 
-formed_command : (s : Sheet) → Formed s → (t : ℕ) → Formed (sheet_command s t)
-unfolding sheet_command
-formed_command s f t =
-    both Formed (eqb (command_of t) 1) (formed_common s f _ (request_control t s.common))
-    (both Formed (eqb (command_of t) 2) (formed_gates s f _ (length_each_gate _ _ s.gates))
-    (both Formed (eqb (command_of t) 3) (formed_gates s f _ (length_each_gate _ _ s.gates))
-    (both Formed (eqb (command_of t) 4) (formed_cleared s f) f)))
-
 formed_tag : (s : Sheet) → Formed s → (t : ℕ) → Formed (sheet_tag s t)
-unfolding sheet_tag
-formed_tag s f t = both Formed (events_on s.common) (both Formed (right_key s.common t) (formed_command s f t) f) f
+formed_tag s f t =
+    sheet_tag_by Formed s t f (formed_common s f _ (request_control t s.common)) (formed_gates s f _ (length_each_gate _ _ s.gates))
+    (formed_gates s f _ (length_each_gate _ _ s.gates)) (formed_cleared s f)
 
 -- the loader leaves the count, and RESET holds it
 load_count : (c : ℕ) (l : Option Reload) (group : ℕ) (memory : List ℕ) (x : Counter) → (sheet_load c l group memory x).count ≡ x.count

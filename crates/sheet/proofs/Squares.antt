@@ -18,12 +18,14 @@ use Rattle.lists.proofs.Tables.{get_or_each, get_d_set, get_d_tabulate, length_e
 use Rattle.counters.specs.declared.counter.Counter.{Counter}
 use Rattle.loader.specs.declared.loader.Reload.{Reload as Reloading}
 use Rattle.counters.specs.Counter.{clear_counters, cleared, counter0, counter_at, counter_tick, reset_on, tick_counters}
+use Rattle.gates.specs.declared.gate.Gate.{Gate}
 use Rattle.gates.specs.Gate.{each_gate, gate0, gate_step, outputs_of, with_mode, with_prepare, with_prepare_pulse, with_recover, with_recover_pulse, with_timeout}
 use Rattle.lines.specs.Lines.{bad_levels, rises_of}
 use Rattle.loader.specs.Loader.{group_at, takes, load_into}
 use Rattle.loader.specs.Memory.{loaded, place_of, replaced, word_at}
 use Rattle.device.specs.declared.map.Register.{Register}
 use Rattle.device.specs.declared.map.Register.TheVariants.{Nothing, Readout, Other, Control, Mode, Timeout, Key, Enable, Reload, Prepare, Recover, Input, Group, Word}
+use Rattle.device.specs.declared.state.Crate.{Crate}
 use Rattle.device.specs.declared.state.Rest.{Rest}
 use Rattle.device.specs.Answer.{is_done}
 use Rattle.registers.specs.Calls.{Call, tick, write, tag, download, called, download_answer, step}
@@ -35,32 +37,12 @@ use Rattle.writing.specs.Write.{control_write, reset_by, write_at}
 use Rattle.registers.proofs.Whole.{accepted, step_called}
 use Rattle.sheet.specs.Lines.{Lines}
 use Rattle.sheet.specs.OwnPart.{four_of, is_own_word, own, own_at, own_tag, own_word}
-use Rattle.sheet.specs.Sheet.{put_common, put_counter, put_gates, put_group, put_memory, put_four, reset_counter, sheet_command, sheet_load, sheet_step, sheet_tag, sheet_tick}
+use Rattle.sheet.specs.Sheet.{Sheet, put_common, put_counter, put_gates, put_group, put_memory, put_four, reset_counter, sheet_command, sheet_load, sheet_step, sheet_tag, sheet_tick}
+use Rattle.sheet.proofs.Changes.{pick_square}
 use Rattle.sheet.proofs.OwnTag.{own_tag_command, own_tag_gates, own_tag_key, own_tag_whole}
 use Rattle.sheet.proofs.Projection.{Fits, Sized, counter_tick_own, own_gates, own_gates_each, own_gates_other, own_gates_set, own_place, own_words}
 use Rattle.sheet.proofs.Projection.{own_words_at, own_words_first, sheet≡, sheet_in}
 use Rattle.sheet.proofs.Fed.{sheet_step_by}
-
--- ---- a gate that is fed nothing stays at its power-up value
-
-idle_step : gate_step false gate0 ≡ gate0
-unfolding gate_step
-idle_step = refl
-
-idle_mode : with_mode false gate0 ≡ gate0
-idle_mode = refl
-
-idle_prepare : with_prepare false gate0 ≡ gate0
-idle_prepare = refl
-
-idle_recover : with_recover false gate0 ≡ gate0
-idle_recover = refl
-
-idle_prepare_pulse : with_prepare_pulse false gate0 ≡ gate0
-idle_prepare_pulse = refl
-
-idle_recover_pulse : with_recover_pulse false gate0 ≡ gate0
-idle_recover_pulse = refl
 
 -- ---- a place of the memory taken apart and put together again
 
@@ -129,7 +111,7 @@ module _ (S : Lines) (c : ℕ) (c< : c < 128) (m : Machine) (size : Sized m) whe
       (stepped
       ∙ counter_tick_own S m.state.common.control m.state.levels inputs m.state.common.phases m.state.gates
       (each_gate gate_step levels m.state.gates) (counter_at m.state.counters c) fit
-      ∙ rw (own_gates_each gate_step idle_step S.gates levels m.state.gates))
+      ∙ rw (own_gates_each gate_step (unfold gate_step in refl) S.gates levels m.state.gates))
     where
       stepped : counter_at (tick_counters m.state.common.control (rises_of m.state.levels inputs m.state.common.phases) (outputs_of m.state.gates) (outputs_of (each_gate gate_step levels m.state.gates)) m.state.counters) c
           ≡ counter_tick m.state.common.control (rises_of m.state.levels inputs m.state.common.phases) (outputs_of m.state.gates) (outputs_of (each_gate gate_step levels m.state.gates)) (counter_at m.state.counters c)
@@ -140,7 +122,7 @@ module _ (S : Lines) (c : ℕ) (c< : c < 128) (m : Machine) (size : Sized m) whe
       ≡ sheet_tick c (sheet_in S c m) (masked_bits 54 S.inputs inputs) (masked_bits 12 S.gates levels)
   unfolding sheet_in tick_of sheet_tick
   tick_square inputs levels fit =
-      sheet≡ (tick_counter inputs levels fit) refl refl refl refl (own_gates_each gate_step idle_step S.gates levels m.state.gates)
+      sheet≡ (tick_counter inputs levels fit) refl refl refl refl (own_gates_each gate_step (unfold gate_step in refl) S.gates levels m.state.gates)
 
   -- ---- write, by the registers of the map
 
@@ -198,13 +180,13 @@ module _ (S : Lines) (c : ℕ) (c< : c < 128) (m : Machine) (size : Sized m) whe
   write_square (Readout r) w = refl
   write_square (Other r) w = refl
   write_square Control w = ap (λ (x : Counter). put_common (put_counter (sheet_in S c m) x) (control_write w m.state.common)) (reset_square w)
-  write_square Mode w = ap (put_gates (sheet_in S c m)) (own_gates_each with_mode idle_mode S.gates w m.state.gates)
+  write_square Mode w = ap (put_gates (sheet_in S c m)) (own_gates_each with_mode refl S.gates w m.state.gates)
   write_square (Timeout g) w = timeout_square g w
   write_square Key w = refl
   write_square Enable w = refl
   write_square Reload w = refl
-  write_square Prepare w = ap (put_gates (sheet_in S c m)) (own_gates_each with_prepare idle_prepare S.gates w m.state.gates)
-  write_square Recover w = ap (put_gates (sheet_in S c m)) (own_gates_each with_recover idle_recover S.gates w m.state.gates)
+  write_square Prepare w = ap (put_gates (sheet_in S c m)) (own_gates_each with_prepare refl S.gates w m.state.gates)
+  write_square Recover w = ap (put_gates (sheet_in S c m)) (own_gates_each with_recover refl S.gates w m.state.gates)
   write_square (Input n) w = input_square n w
   write_square (Group k) w = group_square k w
   write_square (Word i) w = word_square i w
@@ -215,35 +197,31 @@ module _ (S : Lines) (c : ℕ) (c< : c < 128) (m : Machine) (size : Sized m) whe
   command_square : (r : Rest) (t : ℕ) → sheet_in S c (with_state m (commanded (with_rest m.state r) t)) ≡ sheet_command (sheet_in S c m) (own_tag S t)
   unfolding sheet_in commanded sheet_command
   command_square r t =
+      let F : Crate → Sheet = λ s. sheet_in S c (with_state m s) in
+      let G : List Gate → Sheet = put_gates (sheet_in S c m) in
       rw (own_tag_command S t)
-      (cases (eqb (command_of t) 1)
-      (λ e. let p : command_of t ≡ 1 = eqb-true _ 1 e in rw (e, own_tag_whole S t (rw p refl)) refl)
+      (pick_square F (eqb (command_of t) 1) (λ e. let p : command_of t ≡ 1 = eqb-true _ 1 e in rw (own_tag_whole S t (rw p refl)) refl)
       (λ e.
-      rw e
-      (cases (eqb (command_of t) 2)
+      pick_square F (eqb (command_of t) 2)
       (λ f.
-      rw f
-      (ap (put_gates (sheet_in S c m))
-      (own_gates_each with_prepare_pulse idle_prepare_pulse S.gates t m.state.gates
-      ∙ sym (own_tag_gates S t (rw f refl) with_prepare_pulse (own_gates S.gates m.state.gates)))))
+      ap G
+      (own_gates_each with_prepare_pulse refl S.gates t m.state.gates
+      ∙ sym (own_tag_gates S t (rw f refl) with_prepare_pulse (own_gates S.gates m.state.gates))))
       (λ f.
-      rw f
-      (cases (eqb (command_of t) 3)
+      pick_square F (eqb (command_of t) 3)
       (λ g.
-      rw g
-      (ap (put_gates (sheet_in S c m))
-      (own_gates_each with_recover_pulse idle_recover_pulse S.gates t m.state.gates
-      ∙ sym (own_tag_gates S t (rw (f, g) refl) with_recover_pulse (own_gates S.gates m.state.gates)))))
-      (λ g. rw g (cases (eqb (command_of t) 4) (λ h. rw h (ap (put_counter (sheet_in S c m)) clear_square)) (λ h. rw h refl))))))))
+      ap G
+      (own_gates_each with_recover_pulse refl S.gates t m.state.gates
+      ∙ sym (own_tag_gates S t (rw (f, g) refl) with_recover_pulse (own_gates S.gates m.state.gates))))
+      (λ g. pick_square F (eqb (command_of t) 4) (λ h. ap (put_counter (sheet_in S c m)) clear_square) (λ h. refl)))))
 
   -- what a tag leaves in 0x0900 to 0x0902 is in no sheet
   tag_square : (t : ℕ) → sheet_in S c (with_state m (tag_of m.state t)) ≡ sheet_tag (sheet_in S c m) (own_tag S t)
   unfolding sheet_in tag_of sheet_tag
   tag_square t =
+      let F : Crate → Sheet = λ s. sheet_in S c (with_state m s) in
       rw (own_tag_key S t)
-      (cases (events_on m.state.common)
-      (λ e. rw e (cases (right_key m.state.common t) (λ k. rw k (command_square _ t)) (λ k. rw k refl)))
-      (λ e. rw e refl))
+      (pick_square F (events_on m.state.common) (λ e. pick_square F (right_key m.state.common t) (λ k. command_square _ t) (λ k. refl)) (λ e. refl))
 
   -- ---- download
 
