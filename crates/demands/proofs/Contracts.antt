@@ -78,8 +78,8 @@ download_asks = refl
 pub run_asks : run_reads.Asked ≡ (λ κs a. Unit)
 run_asks = refl
 
--- nor does `number`, but for Rust's own rule that what the value T borrows lives as long as the answer
-pub number_asks : number_reads.Asked ≡ (λ T laws copies clones calls κs a. T.lives ⊑ κs.0)
+-- nor does `number`, but for Rust's own rule that what a value of type T borrows outlives the call
+pub number_asks : number_reads.Asked ≡ (λ T laws copies clones calls κs a. κs.0 ⊑ T.lives)
 number_asks = refl
 
 pub stop_number_asks : stop_number_reads.Asked ≡ (λ κs a. Unit)

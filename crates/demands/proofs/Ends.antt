@@ -35,7 +35,8 @@ use Rattle.demands.specs.Seen.{Act, calling, reading, scanning, tracing, answere
 
 -- a request: 4, then 5
 request_first : (asks beyond full : Bool) →
-    pick asks (pick beyond (Err Dataset) (pick full (Err Full) (Ok tt))) (Ok tt) ≡ pick (asks && beyond) (Err Dataset) (pick (asks && full) (Err Full) (Ok tt))
+    pick {A = Answer} asks (pick beyond (Err Dataset) (pick full (Err Full) (Ok tt))) (Ok tt)
+    ≡ pick (asks && beyond) (Err Dataset) (pick (asks && full) (Err Full) (Ok tt))
 request_first true beyond full = refl
 request_first false beyond full = refl
 
@@ -130,7 +131,7 @@ all_left m x e (Err Full) d = sym e
 all_left m x e (Err Level) d = refl
 all_left m x e (Err Length) d = refl
 
-asked_left : (m : Machine) (x : Act) (b c : Bool) → is_done (pick b (Err Dataset) (pick c (Err Full) (Ok tt))) ≡ false →
+asked_left : (m : Machine) (x : Act) (b c : Bool) → is_done (pick {A = Answer} b (Err Dataset) (pick c (Err Full) (Ok tt))) ≡ false →
     all_but_tag m x ≡ left_by m x (pick b (Err Dataset) (pick c (Err Full) (Ok tt)))
 unfolding left_by
 asked_left m x true c d = refl
@@ -186,7 +187,7 @@ unfolding showing shown_by conditions_of read_of scan_of run_of
 shown m (calling x) = ap (λ (a : Answer). answered a (number_of a)) (answers m x)
 shown m (reading a) =
     cases (is_whole m.memory)
-    (λ h. rw (h, read_first (decode_of a) (word_in m (decode_of a))) (ap (told _) (giving_number (cause_of m (reading a)) _)))
+    (λ h. rw (h, read_first, giving_number {A = ℕ}))
     (λ h. rw h refl)
 shown m scanning = cases (is_whole m.memory) (λ h. rw h refl) (λ h. rw h refl)
 shown m (tracing t budget) = cases (is_whole m.memory) (λ h. rw h refl) (λ h. rw h refl)
