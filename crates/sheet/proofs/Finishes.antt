@@ -9,6 +9,8 @@ use borrow.Author.Tests.{eqb-true, eqb-false, ltb-true, ltb-false, lt-ltb, le-lt
 use lib.Dec.{eqb, ltb}
 use lib.ListN.{get_or, length}
 use lib.Seq.{get_or-set_same, get_or-set_other}
+use Rattle.std.proofs.lemmas.Grind.{common_steps}
+use Rattle.std.proofs.lemmas.Bool.Decides.{nat_tests}
 use Rattle.std.proofs.Common.{Option, Some, None}
 use Rattle.bools.specs.Pick.{pick}
 use Rattle.bools.proofs.Tests.{both, cases}
@@ -80,10 +82,7 @@ stands_tick cm r finished w n past = loaders cm.loader (λ b. rw b past) (λ l b
 
 work_busy : (l : Reloading) (q : Queue) → l.next < 128 → ticks_at_work (loader_step (Some l) q) + 1 ≡ 128 - l.next
 unfolding loader_step
-work_busy l q n =
-    cases (ltb l.next 127)
-    (λ e. rw e (omega (arith, ltb-true l.next 127 e)))
-    (λ e. rw e (omega (arith, ltb-false l.next 127 e)))
+work_busy l q n = grind (arith, nat_tests)
 
 left_tick : (cm : Common) (r : Request) (s : Stand) → LoaderInRange cm.loader → Stands cm r s →
     ticks_left (loader_step cm.loader cm.queue) (stand_tick cm.loader s) ≡ ticks_left cm.loader s - 1
@@ -238,17 +237,7 @@ due_pushed m m' r f h h' free q l = record {
 
 made_by_lem : (cm : Common) (w : ℕ) (asks : Bool) (r : Request) → made_by cm w asks ≡ Some r →
     (asks ≡ true) × (is_done (request_answer cm.queue (dataset_in w)) ≡ true) × (request_for (dataset_in w) (group_in w) ≡ r)
-made_by_lem cm w true r e =
-    cases (is_done (request_answer cm.queue (dataset_in w)))
-    (λ f. (refl, f, some_same _ r (rw f at e)))
-    (λ f. absurd (none_some r (rw f at e)))
-  where
-    some_same : (a b : Request) → Some a ≡ Some b → a ≡ b
-    some_same a b p = cc
-
-    none_some : (b : Request) → None ≡ Some b → ⊥
-    none_some b p = cc
-made_by_lem cm w false r e = cc
+made_by_lem cm w asks r e = (grind (arith, common_steps), grind (arith, common_steps), grind (arith, common_steps))
 
 reload_made : (w : ℕ) (cm : Common) → triggers w cm ≡ true → is_done (request_answer cm.queue (dataset_in w)) ≡ true →
     reload_write w cm ≡ with_reload (kept Reload w) (requested w cm)

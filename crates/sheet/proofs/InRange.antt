@@ -9,6 +9,7 @@ use lib.Dec.{leb, ltb, lit<}
 use lib.IntN.{ℤ, pos, ◌+ℤ◌, ◌-ℤ◌}
 use lib.ListN.{get_or, length-set}
 use lib.Signed.{mag}
+use Rattle.std.proofs.lemmas.Bool.Decides.{nat_tests}
 use Rattle.std.proofs.Common.{Option, Some, None}
 use Rattle.numbers.specs.Signed.{joined}
 use Rattle.numbers.proofs.Complement.{signed_lt, wrapped_lt}
@@ -93,9 +94,7 @@ load_in l groups memory xs words = load_all CounterInRange counter0_in l groups 
 -- ---- gates
 
 timer_in : (was is : Bool) (timer timeout : ℕ) → timer ≤ timeout_unit * 65535 → timeout < 2 ^ 16 → timer_of was is timer timeout ≤ timeout_unit * 65535
-timer_in true true timer timeout h t = omega arith
-timer_in false true timer timeout h t = omega arith
-timer_in was false timer timeout h t = h
+timer_in was is timer timeout h t = grind (arith, nat_tests)
 
 pub gate_in_lem : (high : Bool) (g : Gate) → GateInRange g → GateInRange (gate_step high g)
 unfolding gate_step
@@ -108,27 +107,13 @@ gate_in_lem high g h = record {
 
 pub watchdog_in : (timeout : ℕ) (rise : Bool) (w : Watchdog) → w.value ≤ watchdog_top → (watchdog_step timeout rise w).value ≤ watchdog_top
 unfolding watchdog_step
-watchdog_in timeout true w h = omega arith
-watchdog_in timeout false w h =
-    pick_elim (λ (n : ℕ). n ≤ watchdog_top) (ltb w.value watchdog_top) (λ e. omega (arith, ltb-true w.value watchdog_top e)) (λ e. omega arith)
+watchdog_in timeout rise w h = grind (arith, nat_tests)
 
 frequency_le : (k : ℕ) → frequency k ≤ 25000
-frequency_le zero = omega arith
-frequency_le (suc zero) = omega arith
-frequency_le (suc (suc zero)) = omega arith
-frequency_le (suc (suc (suc zero))) = omega arith
-frequency_le (suc (suc (suc (suc zero)))) = omega arith
-frequency_le (suc (suc (suc (suc (suc zero))))) = omega arith
-frequency_le (suc (suc (suc (suc (suc (suc zero)))))) = omega arith
-frequency_le (suc (suc (suc (suc (suc (suc (suc zero))))))) = omega arith
-frequency_le (suc (suc (suc (suc (suc (suc (suc (suc zero)))))))) = omega arith
-frequency_le (suc (suc (suc (suc (suc (suc (suc (suc (suc k))))))))) = omega arith
+frequency_le k = grind (arith, nat_tests)
 
 phase_in : (k p : ℕ) → p < phase_limit → phase_step k p < phase_limit
-phase_in k p h =
-    pick_elim (λ (n : ℕ). n < phase_limit) (leb phase_limit (phase_sum k p))
-    (λ e. omega (arith, frequency_le k, leb-true phase_limit (phase_sum k p) e))
-    (λ e. leb-false phase_limit (phase_sum k p) e)
+phase_in k p h = grind (arith, nat_tests, frequency_le)
 
 pub phases_in : (phases : List ℕ) → ((k : ℕ) → get_or phases k 0 < phase_limit) → (k : ℕ) → get_or (step_phases phases) k 0 < phase_limit
 unfolding step_phases
@@ -142,13 +127,7 @@ request0_in = record { dataset = lit< tt; group = lit< tt }
 -- a request that is taken is in range, and there is a place for it
 pub taken : (q : Queue) (d : ℕ) → is_done (request_answer q d) ≡ true → (d < 32) × (q.waiting < 16)
 unfolding request_answer
-taken q d e =
-    cases (is_beyond d)
-    (λ b. absurd (false≢true (rw b at e)))
-    (λ b.
-    cases (is_full q)
-    (λ f. absurd (false≢true (rw (b, f) at e)))
-    (λ f. (omega (arith, ltb-false 31 d b), leb-false 16 q.waiting f)))
+taken q d e = (grind (arith, nat_tests), grind (arith, nat_tests))
 
 pub pushed_in : (q : Queue) → QueueInRange q → (r : Request) → RequestInRange r → q.waiting < 16 → QueueInRange (pushed q r)
 unfolding pushed

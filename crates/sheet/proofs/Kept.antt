@@ -7,6 +7,8 @@ use mathlib.Core.Path.{◌≡◌, refl, ◌∙◌}
 use borrow.Author.Tests.{eq-eqb, eqb-true, lt-ltb, ltb-true}
 use lib.Dec.{eqb, ltb}
 use lib.ListN.{length, length-set}
+use Rattle.std.proofs.lemmas.Grind.{common_steps}
+use Rattle.std.proofs.lemmas.Bool.Decides.{nat_tests}
 use Rattle.std.proofs.Common.{Option, Some, None}
 use Rattle.bools.proofs.Tests.{both, pick_ap, pick_elim}
 use Rattle.std.proofs.lemmas.Bool.{and_parts}
@@ -128,54 +130,33 @@ holds_all S = record { inputs = λ i e. e; gates = λ g e. e }
 
 pub holds_left : (S A B : Lines) → Holds S (join A B) → Holds S A
 unfolding join
-holds_left S A B h = record { inputs = λ i e. h.inputs i (rw e refl); gates = λ g e. h.gates g (rw e refl) }
+holds_left S A B h = record { inputs = λ i e. grind (arith, common_steps, h.inputs i); gates = λ g e. grind (arith, common_steps, h.gates g) }
 
 pub holds_right : (S A B : Lines) → Holds S (join A B) → Holds S B
 unfolding join
-holds_right S A B h = record
-    { inputs = λ i e. h.inputs i (rw e (or-true (A.inputs i))); gates = λ g e. h.gates g (rw e (or-true (A.gates g))) }
-
--- one of two tests
-either : (a b : Bool) {z : Bool} → a || b ≡ true → (a ≡ true → z ≡ true) → (b ≡ true → z ≡ true) → z ≡ true
-either true b e f g = f refl
-either false b e f g = g e
+holds_right S A B h = record { inputs = λ i e. grind (arith, common_steps, h.inputs i); gates = λ g e. grind (arith, common_steps, h.gates g) }
 
 pub holds_both : (S A B : Lines) → Holds S A → Holds S B → Holds S (join A B)
 unfolding join
-holds_both S A B p q = record {
-  inputs = λ i e. either (A.inputs i) (B.inputs i) e (p.inputs i) (q.inputs i);
-  gates = λ g e. either (A.gates g) (B.gates g) e (p.gates g) (q.gates g);
-}
+holds_both S A B p q = record
+    { inputs = λ i e. grind (arith, common_steps, p.inputs i, q.inputs i); gates = λ g e. grind (arith, common_steps, p.gates g, q.gates g) }
 
 pub holds_none : (S : Lines) → Holds S no_lines
-holds_none S = record { inputs = λ i e. absurd (false≢true e); gates = λ g e. absurd (false≢true e) }
+holds_none S = record { inputs = λ i e. cc; gates = λ g e. cc }
 
 -- a word's lines are what it selects
 fits_word : (S : Lines) (w : ℕ) → Holds S (lines_of w) → Fits S w
 unfolding lines_of
 fits_word S w h = record {
-  up = λ p. h.inputs (up_of w) (rw (lt-ltb (up_of w) 54 p, eq-eqb (up_of w) (up_of w) refl));
-  down = λ p. h.inputs (down_of w) (rw (lt-ltb (down_of w) 54 p, eq-eqb (down_of w) (down_of w) refl) (or-true (eqb (down_of w) (up_of w))));
-  gate = λ p. h.gates (gate_of w) (rw (lt-ltb (gate_of w) 12 p, eq-eqb (gate_of w) (gate_of w) refl));
+  up = λ p. grind (arith, nat_tests, common_steps, h.inputs (up_of w));
+  down = λ p. grind (arith, nat_tests, common_steps, h.inputs (down_of w));
+  gate = λ p. grind (arith, nat_tests, common_steps, h.gates (gate_of w));
 }
-
-selected : (mine : ℕ → Bool) (top i n : ℕ) → ltb i top ≡ true → (n < top → mine n ≡ true) → eqb i n ≡ true → mine i ≡ true
-selected mine top i n h f e =
-    let q : i ≡ n = eqb-true i n e in
-    let p : i < top = ltb-true i top h in
-    rw q (f (omega arith))
 
 pub holds_word : (S : Lines) (w : ℕ) → Fits S w → Holds S (lines_of w)
 unfolding lines_of
-holds_word S w f = record {
-  inputs = λ i e.
-      let h : ltb i 54 ≡ true = (and_parts (ltb i 54) (eqb i (up_of w) || eqb i (down_of w)) e).0 in
-      either (eqb i (up_of w)) (eqb i (down_of w)) (and_parts (ltb i 54) (eqb i (up_of w) || eqb i (down_of w)) e).1
-      (selected S.inputs 54 i (up_of w) h f.up)
-      (selected S.inputs 54 i (down_of w) h f.down);
-  gates = λ g e.
-      selected S.gates 12 g (gate_of w) (and_parts (ltb g 12) (eqb g (gate_of w)) e).0 f.gate (and_parts (ltb g 12) (eqb g (gate_of w)) e).1;
-}
+holds_word S w f = record
+    { inputs = λ i e. grind (arith, nat_tests, common_steps, f.up, f.down); gates = λ g e. grind (arith, nat_tests, common_steps, f.gate) }
 
 -- the stored word has the lines of the written one: all 16 bits are kept
 pub lines_kept : (c w : ℕ) → lines_of (kept (Input c) w) ≡ lines_of w

@@ -8,6 +8,7 @@ use mathlib.Core.Path.{◌≡◌, refl, sym, ap, ◌∙◌}
 use borrow.Author.Tests.{eq-eqb, le-ltb, lt-ltb}
 use lib.Dec.{eqb}
 use lib.ListN.{length}
+use Rattle.std.proofs.lemmas.Bool.Decides.{nat_tests}
 use Rattle.std.proofs.Common.{Ok}
 use Rattle.words.specs.Word.{bit, bit_of}
 use Rattle.words.proofs.Packing.{bit_pack, bit_zero}
@@ -81,8 +82,7 @@ module _ (i : ℕ) (b : i < 54) where
       ∙ ap (λ (r : Bool). raw_step r (raw_at s.rest.rawcounts i)) (rise_is s.levels inputs s.common.phases)
 
 step_mod : (r : Bool) (n : ℕ) → raw_step r (n % 2 ^ 32) ≡ (n + bit_of r) % 2 ^ 32
-step_mod true n = omega arith
-step_mod false n = omega arith
+step_mod r n = grind (arith, nat_tests)
 
 bad_levels_lem : (i inputs gates : ℕ) (l : List Call) → bad_levels inputs gates ≡ true → levels_of i (tick inputs gates ∷ l) ≡ levels_of i l
 unfolding levels_of

@@ -10,6 +10,7 @@ use lib.Dec.{eqb, leb, ltb, lit<}
 use lib.IntN.{pos}
 use lib.ListN.{get_or, length, length-set, set}
 use lib.Pow.{pow_pos}
+use Rattle.std.proofs.lemmas.Bool.Decides.{nat_tests}
 use Rattle.bools.specs.Pick.{pick}
 use Rattle.words.specs.Word.{bit, field_of}
 use Rattle.words.proofs.Fields.{bit_low}
@@ -267,10 +268,7 @@ reached_write m h r w = h
 
 good_inputs : (inputs gates : ℕ) → bad_levels inputs gates ≡ false → (inputs < 2 ^ 54) × (gates < 2 ^ 12)
 unfolding bad_levels
-good_inputs inputs gates e =
-    cases (leb (2 ^ 54) inputs)
-    (λ f. absurd (true≢false (rw f at e)))
-    (λ f. (leb-false (2 ^ 54) inputs f, leb-false (2 ^ 12) gates (rw f at e)))
+good_inputs inputs gates e = (grind (arith, nat_tests), grind (arith, nat_tests))
 
 rawcounts_in : (rises : ℕ) (rawcounts : List ℕ) → ((i : ℕ) → raw_at rawcounts i < 2 ^ 32) → (i : ℕ) → raw_at (count_rises rises rawcounts) i < 2 ^ 32
 unfolding count_rises

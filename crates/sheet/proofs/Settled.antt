@@ -138,28 +138,22 @@ refused_same : (t : ℕ) (cm : Common) → is_beyond (dataset_in t) ≡ true →
 unfolding tag_request request_answer
 refused_same t cm e = rw e refl
 
+-- a choice that leaves z, where the test of each branch holds
+idle_pick : {A : Type 0} (b : Bool) {p q : Bool} {x y z : A} → (p ≡ true → x ≡ z) → (q ≡ true → y ≡ z) → pick b p q ≡ true → pick b x y ≡ z
+idle_pick true f g e = f e
+idle_pick false f g e = g e
+
 command_same : (s : Sheet) → Formed s → (t : ℕ) → idle_command s t ≡ true → sheet_command s t ≡ s
 unfolding idle_command sheet_command
-command_same s f t e =
-    cases (eqb (command_of t) 1)
-    (λ a. rw a (ap (put_common s) (refused_same t s.common (rw a at e))))
-    (λ a.
-    cases (eqb (command_of t) 2)
-    (λ b. rw (a, b) (ap (put_gates s) (pulses_same with_prepare_pulse prepare_pulse no_prepare t s.gates f.gates (rw (a, b) at e))))
-    (λ b.
-    cases (eqb (command_of t) 3)
-    (λ d. rw (a, b, d) (ap (put_gates s) (pulses_same with_recover_pulse recover_pulse no_recover t s.gates f.gates (rw (a, b, d) at e))))
-    (λ d. rw (a, b, d, not-true (eqb (command_of t) 4) (rw (a, b, d) at e)) refl)))
+command_same s f t =
+    idle_pick (eqb (command_of t) 1) (λ e. ap (put_common s) (refused_same t s.common e))
+    (idle_pick (eqb (command_of t) 2) (λ e. ap (put_gates s) (pulses_same with_prepare_pulse prepare_pulse no_prepare t s.gates f.gates e))
+    (idle_pick (eqb (command_of t) 3) (λ e. ap (put_gates s) (pulses_same with_recover_pulse recover_pulse no_recover t s.gates f.gates e))
+    (λ e. rw (not-true (eqb (command_of t) 4) e) refl)))
 
 tag_same : (s : Sheet) → Formed s → (t : ℕ) → idle_tag s t ≡ true → sheet_tag s t ≡ s
 unfolding idle_tag sheet_tag
-tag_same s f t e =
-    cases (events_on s.common)
-    (λ a.
-    cases (right_key s.common t)
-    (λ b. rw (a, b) (command_same s f t (rw (a, b) at e)))
-    (λ b. rw (a, b) refl))
-    (λ a. rw a refl)
+tag_same s f t = idle_pick (events_on s.common) (idle_pick (right_key s.common t) (command_same s f t) (λ e. refl)) (λ e. refl)
 
 -- a part that repeats what the sheet has leaves it as it was
 pub own_repeat : (c : ℕ) (s : Sheet) → Formed s → (p : Part) → repeats c s p ≡ true → sheet_step c s p ≡ s
@@ -184,9 +178,7 @@ own_repeat c s f (prepared w) e = ap (put_gates s) (bits_same with_prepare prepa
 own_repeat c s f (recovered w) e = ap (put_gates s) (bits_same with_recover recover (λ g. refl) w s.gates f.gates e)
 own_repeat c s f (tagged t) e = tag_same s f t e
 own_repeat c s f (downloaded d size four) e =
-    cases (is_done (download_answer d size))
-    (λ a. rw a (ap (put_memory s) (four_same s.memory f.memory d four (rw a at e))))
-    (λ a. rw a refl)
+    idle_pick (is_done (download_answer d size)) (λ a. ap (put_memory s) (four_same s.memory f.memory d four a)) (λ a. refl) e
 
 -- ---- every part keeps the form
 

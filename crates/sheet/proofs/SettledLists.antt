@@ -138,9 +138,7 @@ module _ (A : Lines) (c : ℕ) where
   at_start = fits_start A
 
 same_test : (a b : Bool) → (a ≡ true → b ≡ true) → (b ≡ true → a ≡ true) → a ≡ b
-same_test true b f g = sym (f refl)
-same_test false true f g = g refl
-same_test false false f g = refl
+same_test a b f g = grind arith
 
 -- a set that has the own lines of the one list has those of the other ..
 lines_held : (S T : Lines) (c : ℕ) (l m : List Call) → settled c (own_part S c l) ≡ settled c (own_part T c m) →
