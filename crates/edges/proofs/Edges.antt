@@ -19,9 +19,9 @@ use Rattle.device.specs.declared.map.Status.TheVariants.{Module, Negative, Posit
 use Rattle.device.specs.declared.map.Status.TheVariants.{GateStates, TagLow, TagHigh, Code, LoaderState, LoaderCounter, Count, Raw, Threshold}
 use Rattle.device.specs.Map.{decode_of}
 use Rattle.device.specs.State.{machine, memory0, power_up, rest0, rest_of, with_rest}
-use Rattle.reading.specs.Read.{read_of, word_in}
+use Rattle.reading.specs.Read.{read_of, word_in, word_shown}
 use Rattle.registers.specs.Calls.{Call, tick, write, tag, download, after, from, machine0}
-use Rattle.registers.proofs.Cases.{word_shown, reads, answers, often, pulses, counting, triggered}
+use Rattle.registers.proofs.Cases.{reads, answers, often, pulses, counting, triggered}
 use Rattle.leaps.specs.Leap.{leap_of, quiet}
 use Rattle.records.specs.declared.Record.TheVariants.{Ticks, Write, Tag}
 use Rattle.records.specs.Records.{Found, record_at}
