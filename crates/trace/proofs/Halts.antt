@@ -16,7 +16,7 @@ use Rattle.lines.specs.declared.levels.Levels.{Levels}
 use Rattle.lines.specs.Lines.{bad_levels}
 use Rattle.records.specs.declared.Record.TheVariants.{Ticks, Write, Tag}
 use Rattle.records.specs.declared.Stop.{Stop}
-use Rattle.records.specs.declared.Stop.TheVariants.{End, Spent, Memory}
+use Rattle.records.specs.declared.Stop.TheVariants.{Spent}
 use Rattle.records.specs.Records.{Found, next_at, record_at}
 use Rattle.trace.specs.Run.{Run, begun, by_record, call_in, once_of, one, passes, repeated, report_of, run_from, run_of, stops_by, ticks_in}
 use Rattle.trace.specs.Sound.{Sound}

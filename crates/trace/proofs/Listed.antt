@@ -20,7 +20,7 @@ use Rattle.lines.specs.Lines.{bad_levels}
 use Rattle.registers.proofs.Lists.{from_append, full_from, refusals_append, refusals_repeated, ticks_append, ticks_repeated}
 use Rattle.records.specs.declared.Record.TheVariants.{Ticks, Write, Tag}
 use Rattle.records.specs.declared.Stop.{Stop}
-use Rattle.records.specs.declared.Stop.TheVariants.{End, Spent, Memory}
+use Rattle.records.specs.declared.Stop.TheVariants.{Spent, Memory}
 use Rattle.trace.specs.Passed.{calls_in, calls_of, passed_from, passed_in}
 use Rattle.records.specs.Records.{Found, record_at}
 use Rattle.trace.specs.Run.{Run, begun, by_record, call_in, machine_of, once_of, passes, repeated, run_from, run_of, stops_by, ticks_in}

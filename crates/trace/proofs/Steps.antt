@@ -24,7 +24,7 @@ use Rattle.records.specs.declared.Record.TheVariants.{Ticks, Write, Tag}
 use Rattle.trace.specs.declared.Report.{Report}
 use Rattle.records.specs.Records.{Found, header_bytes, is_known, length_at, next_at, number_at, payload_at, payload_bytes, record_at, repeat_bytes, tag_at, ticks_at}
 use Rattle.records.specs.declared.Stop.{Stop}
-use Rattle.records.specs.declared.Stop.TheVariants.{End, Spent}
+use Rattle.records.specs.declared.Stop.TheVariants.{Spent}
 use Rattle.trace.specs.Run.{Run, begun, by_record, call_in, machine_of, once_of, one, passed, passes, progress_of, repeated, run, run_from, run_of, run_on, stopped, stops_by, ticks_in}
 use Rattle.trace.specs.Sound.{Room, Sound}
 

@@ -1,6 +1,6 @@
 -- `tick_on` meets its contract: what the ticks left make of the crate is the same at each turn, after a tick (`calls_less`) and after a leap (`SameEnd`).
 use native.Mathlib.Omega.{arith}
-use mathlib.Core.Path.{◌≡◌, refl, sym, ◌∙◌}
+use mathlib.Core.Path.{◌≡◌, sym, ◌∙◌}
 use Rattle.registers.specs.Calls.{tick}
 use Rattle.device.specs.State.{machine}
 use Rattle.trace.proofs.Leaping.{calls_refused, memory_refused}
