@@ -7,7 +7,6 @@ use mathlib.Core.Path.{◌≡◌, refl, sym, ap, ◌∙◌}
 use borrow.Author.Tests.{eqb-true, not-false, not-true}
 use lib.Dec.{eqb}
 use Rattle.std.specs.Prelude.{Option, None, Some}
-use Rattle.bools.specs.Pick.{pick}
 use Rattle.bools.proofs.Tests.{cases, pick_elim}
 use Rattle.std.proofs.lemmas.Bool.{and_parts, or_parts, true≢false}
 use Rattle.counters.specs.declared.counter.Counter.{Counter}
