@@ -86,49 +86,19 @@ row a edge here rest f g = pick_elim (Placed a) (ltb a edge) (λ e. f (ltb-true 
 
 backplane_placed : (a : ℕ) → Placed a (backplane_map a)
 unfolding backplane_map
-backplane_placed a =
-    row a 0x0630 _ _ (λ h. gap refl) (λ h.
-    row a 0x0636 _ _ (λ k. named (omega arith) (omega arith)) (λ k.
-    row a 0x0638 _ _ (λ l. gap refl) (λ l.
-    row a 0x063E _ _ (λ n. named tt (omega arith)) (λ n. gap refl))))
+backplane_placed a = grind arith
 
 status_placed : (a : ℕ) → 0x0700 ≤ a → Placed a (status_map a)
 unfolding status_map
-status_placed a g =
-    row a 0x0708 _ _ (λ h. named tt (omega arith)) (λ h.
-    row a 0x0710 _ _ (λ k. named tt (omega arith)) (λ k.
-    row a 0x0711 _ _ (λ l. named tt (omega arith)) (λ l.
-    row a 0x0715 _ _ (λ n. named tt (omega arith)) (λ n.
-    row a 0x0717 _ _ (λ o. gap refl) (λ o.
-    row a 0x0718 _ _ (λ p. named tt (omega arith)) (λ p.
-    row a 0x0719 _ _ (λ q. named tt (omega arith)) (λ q.
-    row a 0x071A _ _ (λ r. named tt (omega arith)) (λ r.
-    row a 0x071D _ _ (λ s. named tt (omega arith)) (λ s. gap refl)))))))))
+status_placed a g = grind arith
 
 control_placed : (a : ℕ) → 0x0800 ≤ a → Placed a (control_map a)
 unfolding control_map
-control_placed a g =
-    row a 0x0801 _ _ (λ h. named tt (omega arith)) (λ h.
-    row a 0x0802 _ _ (λ k. named tt (omega arith)) (λ k.
-    row a 0x0803 _ _ (λ l. named tt (omega arith)) (λ l.
-    row a 0x0804 _ _ (λ n. gap refl) (λ n.
-    row a 0x0810 _ _ (λ o. named (omega arith) (omega arith)) (λ o.
-    row a 0x0814 _ _ (λ p. named (omega arith) (omega arith)) (λ p. gap refl))))))
+control_placed a g = grind arith
 
 event_placed : (a : ℕ) → 0x0900 ≤ a → Placed a (event_map a)
 unfolding event_map
-event_placed a g =
-    row a 0x0901 _ _ (λ h. named tt (omega arith)) (λ h.
-    row a 0x0902 _ _ (λ k. named tt (omega arith)) (λ k.
-    row a 0x0903 _ _ (λ l. named tt (omega arith)) (λ l.
-    row a 0x0904 _ _ (λ n. named tt (omega arith)) (λ n.
-    row a 0x0905 _ _ (λ o. named tt (omega arith)) (λ o.
-    row a 0x0A00 _ _ (λ p. gap refl) (λ p.
-    row a 0x0A01 _ _ (λ q. named tt (omega arith)) (λ q.
-    row a 0x0A02 _ _ (λ r. named tt (omega arith)) (λ r.
-    row a 0x0A03 _ _ (λ s. named tt (omega arith)) (λ s.
-    row a 0x0A04 _ _ (λ t. named tt (omega arith)) (λ t.
-    row a 0x0A05 _ _ (λ u. named tt (omega arith)) (λ u. gap refl)))))))))))
+event_placed a g = grind arith
 
 -- word r of output q is word 22 × q + r of all outputs
 selection_place : (q r : ℕ) → r < 22 → 32 * ((22 * q + r) / 22) + (22 * q + r) % 22 ≡ 32 * q + r
@@ -141,32 +111,11 @@ block_in : (k : ℕ) → k < 192 → k % 32 < 22 → 22 * (k / 32) + k % 32 < 13
 block_in k l h = omega arith
 
 output_placed : (a : ℕ) → 0x1100 ≤ a → a < 0x11C0 → Placed a (output_block (a - 0x1100))
-output_placed a g l =
-    let k : ℕ = a - 0x1100 in
-    pick_elim (Placed a) (ltb (k % 32) 22)
-    (λ e.
-    let h : k % 32 < 22 = ltb-true (k % 32) 22 e in
-    named (block_in k (omega arith) h) (ap (λ (n : ℕ). 0x1100 + n) (selection_place (k / 32) (k % 32) h ∙ raster k) ∙ back))
-    (λ e. gap refl)
-  where
-    back : 0x1100 + (a - 0x1100) ≡ a
-    back = omega arith
+output_placed a g l = grind arith
 
 counter_placed : (a : ℕ) → 0x1000 ≤ a → Placed a (counter_map a)
 unfolding counter_map
-counter_placed a g =
-    row a 0x1080 _ _ (λ h. named (omega arith) (omega arith)) (λ h.
-    row a 0x1100 _ _ (λ k. gap refl) (λ k.
-    row a 0x11C0 _ _ (λ l. output_placed a k l) (λ l.
-    row a 0x1200 _ _ (λ n. gap refl) (λ n.
-    row a 0x1300 _ _ (λ o. named tt (omega arith)) (λ o.
-    row a 0x136C _ _ (λ p. named tt (omega arith)) (λ p.
-    row a 0x1600 _ _ (λ q. gap refl) (λ q.
-    row a 0x1620 _ _ (λ r. named (omega arith) (omega arith)) (λ r.
-    row a 0x1800 _ _ (λ s. gap refl) (λ s.
-    row a 0x1A00 _ _ (λ t. named tt (omega arith)) (λ t.
-    row a 0x8000 _ _ (λ u. gap refl) (λ u.
-    row a 0xC000 _ _ (λ v. named (omega arith) (omega arith)) (λ v. gap refl))))))))))))
+counter_placed a g = grind arith
 
 pub placed : (a : ℕ) → Placed a (decode_of a)
 unfolding decode_of

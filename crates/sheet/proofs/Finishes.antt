@@ -56,8 +56,7 @@ dropped_more q k h = omega arith
 
 -- the loader is idle or works on a request, with the equation in hand
 loaders : {A : Type 0} (l : Option Reloading) → (l ≡ None → A) → ((x : Reloading) → l ≡ Some x → A) → A
-loaders None f g = f refl
-loaders (Some x) f g = g x refl
+loaders l f g = grind arith
 
 stands_tick : (cm : Common) (r : Request) (s : Stand) → cm.queue.waiting ≤ 16 → LoaderInRange cm.loader → Stands cm r s →
     Stands (common_tick cm) r (stand_tick cm.loader s)
@@ -294,9 +293,7 @@ due_made m (tag t) r f h e = made_tag m t r f h e
 -- ---- the bound
 
 finished_at_zero : (cm : Common) (r : Request) (s : Stand) → LoaderInRange cm.loader → Stands cm r s → ticks_left cm.loader s ≡ 0 → s ≡ finished
-finished_at_zero cm r (waits k) n st e = absurd (omega arith)
-finished_at_zero cm r works n (loading l b q) e = let n₁ : LoaderInRange (Some l) = rw b at n in absurd (omega (arith, n₁.next, rw b at e))
-finished_at_zero cm r finished n st e = refl
+finished_at_zero cm r s n st e = grind arith
 
 range_step : (m : Machine) → Full m → (x : Call) → CommonInRange m.state.common → CommonInRange (step m x).state.common
 unfolding called
@@ -309,8 +306,7 @@ range_step m f (download d words) h =
     rw (step_called m f (download d words)) (both (λ (y : Machine). CommonInRange y.state.common) (is_done (download_answer d (length words))) h h)
 
 work_le : (l : Option Reloading) → ticks_at_work l ≤ 128
-work_le None = omega arith
-work_le (Some l) = omega arith
+work_le l = grind arith
 
 full_start : Full machine0
 unfolding memory0

@@ -9,6 +9,7 @@ use lib.Dec.{leb, ltb, lit<}
 use lib.IntN.{ℤ, pos, ◌+ℤ◌, ◌-ℤ◌}
 use lib.ListN.{get_or, length-set}
 use lib.Signed.{mag}
+use Rattle.std.proofs.lemmas.Grind.{common_steps}
 use Rattle.std.proofs.lemmas.Bool.Decides.{nat_tests}
 use Rattle.std.proofs.Common.{Option, Some, None}
 use Rattle.numbers.specs.Signed.{joined}
@@ -45,18 +46,11 @@ pub cleared_in : (c : Counter) → CounterInRange c → CounterInRange (cleared 
 cleared_in c h = count_in c h (pos 0) (lit< tt)
 
 counted_in : (z : ℤ) (up down : Bool) → mag z < 2 ^ 31 → mag (counted z up down) < 2 ^ 31
-counted_in z true true h = h
-counted_in z true false h = wrapped_lt 32 (z +ℤ pos 1)
-counted_in z false true h = wrapped_lt 32 (z -ℤ pos 1)
-counted_in z false false h = h
+counted_in z up down h = grind arith
 
 step_in : (c : Counter) (hold clear opened up down : Bool) → CounterInRange c → CounterInRange (counter_step c hold clear opened up down)
 unfolding counter_step
-step_in c true clear opened up down h = cleared_in c h
-step_in c false true true up down h = count_in (cleared c) (cleared_in c h) _ (counted_in _ up down (cleared_in c h).count)
-step_in c false true false up down h = cleared_in c h
-step_in c false false true up down h = count_in c h _ (counted_in _ up down h.count)
-step_in c false false false up down h = h
+step_in c hold clear opened up down h = grind arith
 
 pub tick_in : (control rises was is : ℕ) (c : Counter) → CounterInRange c → CounterInRange (counter_tick control rises was is c)
 unfolding counter_tick
@@ -67,12 +61,7 @@ joined_in low high l h = signed_lt 32 (high * 65536 + low) (omega arith)
 
 loaded_in : (memory : List ℕ) → ((a : ℕ) → word_at memory a < 2 ^ 16) → (a : ℕ) (c : Counter) → CounterInRange c → CounterInRange (loaded memory a c)
 unfolding loaded
-loaded_in memory words a c h = record {
-  count = h.count;
-  positive = joined_in _ _ (words a) (words (a + 1));
-  negative = joined_in _ _ (words (a + 2)) (words (a + 3));
-  input = h.input;
-}
+loaded_in memory words a c h = grind arith
 
 pub counter0_in : CounterInRange counter0
 counter0_in = record { count = lit< tt; positive = lit< tt; negative = lit< tt; input = lit< tt }
@@ -81,11 +70,7 @@ counter0_in = record { count = lit< tt; positive = lit< tt; negative = lit< tt; 
 pub load_all : (P : Counter → Type 0) → P counter0 → (l : Option Reload) (groups memory : List ℕ) (xs : List Counter) →
     ((a : ℕ) (c : Counter) → P c → P (loaded memory a c)) → ((n : ℕ) → P (counter_at xs n)) → (n : ℕ) → P (counter_at (load_into l groups memory xs) n)
 unfolding load_into counter_at
-load_all P p0 None groups memory xs kept p = p
-load_all P p0 (Some l) groups memory xs kept p =
-    both (λ (x : List Counter). (n : ℕ) → P (get_or x n counter0)) (takes l (group_at groups l.next))
-    (all_set counter0 (λ i. P) (λ i. p0) xs l.next _ (kept _ _ (p l.next)) p)
-    p
+load_all P p0 l groups memory xs kept p = grind (arith, common_steps)
 
 pub load_in : (l : Option Reload) (groups memory : List ℕ) (xs : List Counter) → ((a : ℕ) → word_at memory a < 2 ^ 16) →
     ((n : ℕ) → CounterInRange (counter_at xs n)) → (n : ℕ) → CounterInRange (counter_at (load_into l groups memory xs) n)
@@ -98,10 +83,7 @@ timer_in was is timer timeout h t = grind (arith, nat_tests)
 
 pub gate_in_lem : (high : Bool) (g : Gate) → GateInRange g → GateInRange (gate_step high g)
 unfolding gate_step
-gate_in_lem high g h = record {
-  timer = timer_in (in_prepare g.state) (in_prepare (next_state g.state g high)) g.timer g.timeout h.timer h.timeout;
-  timeout = h.timeout;
-}
+gate_in_lem high g h = grind arith
 
 -- ---- watchdogs and phases
 
@@ -131,11 +113,7 @@ taken q d e = (grind (arith, nat_tests), grind (arith, nat_tests))
 
 pub pushed_in : (q : Queue) → QueueInRange q → (r : Request) → RequestInRange r → q.waiting < 16 → QueueInRange (pushed q r)
 unfolding pushed
-pushed_in q h r p free = record {
-  places = length-set q.places q.waiting r ∙ h.places;
-  waiting = omega arith;
-  requests = all_set request0 (λ i. RequestInRange) (λ i. request0_in) q.places q.waiting r p h.requests;
-}
+pushed_in q h r p free = grind (arith, common_steps)
 
 dropped_in : (q : Queue) → QueueInRange q → QueueInRange (dropped q)
 unfolding dropped shifted
@@ -152,10 +130,7 @@ queue_in (Some l) q h = h
 
 pub loader_in : (l : Option Reload) (q : Queue) → LoaderInRange l → QueueInRange q → LoaderInRange (loader_step l q)
 unfolding loader_step oldest
-loader_in None q r h = both LoaderInRange (is_empty q) tt (record { request = h.requests 0; next = lit< tt })
-loader_in (Some l) q r h =
-    pick_elim LoaderInRange (ltb l.next 127) (λ e. record { request = r.request; next = omega (arith, ltb-true l.next 127 e) }) (λ e. tt)
+loader_in l q r h = grind arith
 
 pub handled_in : (l : Option Reload) (n : ℕ) → LoaderInRange l → n < 128 → last_handled l n < 128
-handled_in None n r h = h
-handled_in (Some l) n r h = r.next
+handled_in l n r h = grind arith

@@ -73,8 +73,7 @@ alike_cut c c< l₁ l₂ m₁ m₂ e =
 
 added_append : (o : Option Part) (ps qs : List Part) → added o (ps ++ qs) ≡ added o ps ++ qs
 unfolding added
-added_append None ps qs = refl
-added_append (Some p) ps qs = refl
+added_append o ps qs = grind arith
 
 pub own_part_append : (S : Lines) (c : ℕ) (l₁ l₂ : List Call) → own_part S c (l₁ ++ l₂) ≡ own_part S c l₁ ++ own_part S c l₂
 unfolding own_part

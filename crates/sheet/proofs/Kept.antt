@@ -60,9 +60,7 @@ sized_memory m s x p = assumption
 
 length_load : (l : Option Reloading) (groups memory : List ℕ) (xs : List Counter) → length xs ≡ 128 → length (load_into l groups memory xs) ≡ 128
 unfolding load_into
-length_load None groups memory xs p = p
-length_load (Some l) groups memory xs p =
-    both (λ (x : List Counter). length x ≡ 128) (takes l (group_at groups l.next)) (length-set xs _ _ ∙ p) p
+length_load l groups memory xs p = grind (arith, common_steps)
 
 length_ticked : (control rises was is : ℕ) (xs : List Counter) → length (tick_counters control rises was is xs) ≡ 128
 unfolding tick_counters
@@ -138,8 +136,7 @@ holds_right S A B h = record { inputs = λ i e. grind (arith, common_steps, h.in
 
 pub holds_both : (S A B : Lines) → Holds S A → Holds S B → Holds S (join A B)
 unfolding join
-holds_both S A B p q = record
-    { inputs = λ i e. grind (arith, common_steps, p.inputs i, q.inputs i); gates = λ g e. grind (arith, common_steps, p.gates g, q.gates g) }
+holds_both S A B p q = grind arith
 
 pub holds_none : (S : Lines) → Holds S no_lines
 holds_none S = record { inputs = λ i e. cc; gates = λ g e. cc }
@@ -147,16 +144,11 @@ holds_none S = record { inputs = λ i e. cc; gates = λ g e. cc }
 -- a word's lines are what it selects
 fits_word : (S : Lines) (w : ℕ) → Holds S (lines_of w) → Fits S w
 unfolding lines_of
-fits_word S w h = record {
-  up = λ p. grind (arith, nat_tests, common_steps, h.inputs (up_of w));
-  down = λ p. grind (arith, nat_tests, common_steps, h.inputs (down_of w));
-  gate = λ p. grind (arith, nat_tests, common_steps, h.gates (gate_of w));
-}
+fits_word S w h = grind arith
 
 pub holds_word : (S : Lines) (w : ℕ) → Fits S w → Holds S (lines_of w)
 unfolding lines_of
-holds_word S w f = record
-    { inputs = λ i e. grind (arith, nat_tests, common_steps, f.up, f.down); gates = λ g e. grind (arith, nat_tests, common_steps, f.gate) }
+holds_word S w f = grind arith
 
 -- the stored word has the lines of the written one: all 16 bits are kept
 pub lines_kept : (c w : ℕ) → lines_of (kept (Input c) w) ≡ lines_of w
@@ -177,11 +169,7 @@ lines_by (Some p) = part_lines p
 
 lines_write : (S : Lines) (c : ℕ) (r : Register) (w : ℕ) → lines_by (own_at S c r w) ≡ lines_at c r w
 unfolding own_at lines_at
-lines_write S c (Timeout g) w = both (λ (o : Option Part). lines_by o ≡ no_lines) (S.gates g) refl refl
-lines_write S c (Input n) w = pick_ap lines_by (eqb c n) (Some (patched w)) None
-lines_write S c (Group k) w = both (λ (o : Option Part). lines_by o ≡ no_lines) (eqb (c / 4) k) refl refl
-lines_write S c (Word i) w = both (λ (o : Option Part). lines_by o ≡ no_lines) (is_own_word c i) refl refl
-lines_write S c r w = refl
+lines_write S c r w = grind arith
 
 pub lines_call : (S : Lines) (c : ℕ) (x : Call) → lines_by (own S c x) ≡ lines_in c x
 unfolding own lines_in
@@ -193,8 +181,7 @@ lines_call S c (download d words) = refl
 -- the loader leaves it
 load_input : (c : ℕ) (l : Option Reloading) (group : ℕ) (memory : List ℕ) (x : Counter) → (sheet_load c l group memory x).input ≡ x.input
 unfolding sheet_load loaded
-load_input c None group memory x = refl
-load_input c (Some l) group memory x = both (λ (y : Counter). y.input ≡ x.input) (eqb c l.next && takes l group) refl refl
+load_input c l group memory x = grind arith
 
 -- the sheet's input register after a call: shown on the sheet, where it is one field, and carried to the machine by the square
 module _ (S : Lines) (c : ℕ) (s : Sheet) (fit : Fits S s.counter.input) where
@@ -206,9 +193,7 @@ module _ (S : Lines) (c : ℕ) (s : Sheet) (fit : Fits S s.counter.input) where
 
   fits_step : (x : Counter) (hold clear opened up down : Bool) → FitCounter x → FitCounter (counter_step x hold clear opened up down)
   unfolding counter_step
-  fits_step x false true true up down f = f
-  fits_step x false false true up down f = f
-  fits_step x hold clear opened up down f = f
+  fits_step x hold clear opened up down f = grind arith
 
   fits_tick : (inputs gates : ℕ) → Fit (sheet_tick c s inputs gates)
   unfolding sheet_tick counter_tick

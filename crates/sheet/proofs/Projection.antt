@@ -8,6 +8,7 @@ use mathlib.Core.Path.{◌≡◌, refl, sym, ap, ◌∙◌}
 use borrow.Author.Tests.{eqb-true, ltb-true, ltb-false}
 use lib.Dec.{eqb, ltb, lit<}
 use lib.ListN.{length, get_or, set, get_or-eq_default}
+use Rattle.std.proofs.lemmas.Grind.{common_steps}
 use Rattle.bools.specs.Pick.{pick}
 use Rattle.words.specs.Word.{bit, masked_bits}
 use Rattle.words.proofs.Packing.{bit_masked, bit_pack, masked_zero, nibble_zero}
@@ -97,10 +98,7 @@ own_gates_set mine gates size g isOwn f =
 pub own_gates_other : (mine : ℕ → Bool) (gates : List Gate) → length gates ≡ 12 → (g : ℕ) → mine g ≡ false → (v : Gate) →
     own_gates mine (set gates g v) ≡ own_gates mine gates
 unfolding own_gates gate_at
-own_gates_other mine gates size g other v =
-    tabulate_ext 12 _ _ (λ k h.
-    rw (get_d_set gates g v k gate0 (omega arith))
-    (cases (eqb k g) (λ e. let p : k ≡ g = eqb-true k g e in rw (e, p, other) refl) (λ e. rw e refl)))
+own_gates_other mine gates size g other v = grind (arith, common_steps)
 
 -- the output that c's gate field selects is that of an own gate, or there is none
 pub outputs_own : (mine : ℕ → Bool) (gates : List Gate) (g : ℕ) → (g < 12 → mine g ≡ true) →

@@ -46,8 +46,7 @@ record Left (s t : Crate) : Type 0 where
 -- no setting is a raw count
 rawcounts_stay : (m : Machine) (r : Setting) (w : ℕ) → (rest_write r w m.state.rest).rawcounts ≡ m.state.rest.rawcounts
 unfolding rest_write
-rawcounts_stay m (Mask k) w = refl
-rawcounts_stay m r w = refl
+rawcounts_stay m r w = grind arith
 
 left_write : (m : Machine) (r : Register) (w : ℕ) → Left m.state (write_at m r w).state
 unfolding write_at
@@ -59,8 +58,7 @@ left_tag s t = tag_by (Left s) s t (assumption) (assumption) (assumption) (assum
 
 left_download : (m : Machine) (d : ℕ) (words : List ℕ) → Left m.state (called m (download d words)).state
 unfolding called
-left_download m d words =
-    both (λ (n : Machine). Left m.state n.state) (is_done (download_answer d (length words))) (assumption) (assumption)
+left_download m d words = grind arith
 
 left_step : (m : Machine) (x : Call) → Left m.state (called m x).state → Left m.state (step m x).state
 unfolding step
@@ -171,21 +169,7 @@ module _ (i : ℕ) (b : i < 54) where
 
 decode_raw : (j : ℕ) → j < 108 → decode_of (0x1300 + j) ≡ Readout (Raw j)
 unfolding decode_of counter_map
-decode_raw j h =
-    let e : 0x1300 + j - 0x1300 ≡ j = omega arith in
-    rw (
-      le-ltb (0x1300 + j) 0x0700 (omega arith),
-      le-ltb (0x1300 + j) 0x0800 (omega arith),
-      le-ltb (0x1300 + j) 0x0900 (omega arith),
-      le-ltb (0x1300 + j) 0x1000 (omega arith),
-      le-ltb (0x1300 + j) 0x1080 (omega arith),
-      le-ltb (0x1300 + j) 0x1100 (omega arith),
-      le-ltb (0x1300 + j) 0x11C0 (omega arith),
-      le-ltb (0x1300 + j) 0x1200 (omega arith),
-      le-ltb (0x1300 + j) 0x1300 (omega arith),
-      lt-ltb (0x1300 + j) 0x136C (omega arith),
-      e,
-    )
+decode_raw j h = grind (arith, nat_tests)
 
 read_raw : (m : Machine) → length m.memory ≡ 16384 → (j : ℕ) → j < 108 →
     read_of m (0x1300 + j) ≡ Ok (low_first j (raw_at m.state.rest.rawcounts (j / 2)))

@@ -10,6 +10,7 @@ use lib.Dec.{eqb, leb, ltb, lit<}
 use lib.IntN.{pos}
 use lib.ListN.{get_or, length, length-set, set}
 use lib.Pow.{pow_pos}
+use Rattle.std.proofs.lemmas.Grind.{common_steps}
 use Rattle.std.proofs.lemmas.Bool.Decides.{nat_tests}
 use Rattle.bools.specs.Pick.{pick}
 use Rattle.words.specs.Word.{bit, field_of}
@@ -188,8 +189,7 @@ rest_in (Selection j) w rest h =
 -- ---- calls: one law for each change of the machine
 
 reached_common : (m : Machine) → Reached m → (x : Common) → CommonInRange x → x.control ≡ m.state.common.control → Reached (on_common m x)
-reached_common m h x p e =
-    let z : reset_on x.control ≡ true → (n : ℕ) → AtZero (counter_at m.state.counters n) = rw e h.reset in assumption
+reached_common m h x p e = grind arith
 
 reached_rest : (m : Machine) → Reached m → (x : Rest) → RestInRange x → Reached (with_state m (with_rest m.state x))
 reached_rest m h x p = assumption
@@ -240,10 +240,7 @@ reached_input m h n w =
 
 pub control_stays : (w : ℕ) (cm : Common) → (reload_write w cm).control ≡ cm.control
 unfolding reload_write requested
-control_stays w cm =
-    cases (is_done (reload_answer w cm))
-    (λ e. rw e (cases (triggers w cm) (λ t. rw t refl) (λ t. rw t refl)))
-    (λ e. rw e refl)
+control_stays w cm = grind arith
 
 reached_write : (m : Machine) → Reached m → (r : Register) (w : ℕ) → Reached (write_at m r w)
 unfolding write_at
@@ -308,9 +305,7 @@ reached_tick m h inputs gates good =
 -- ---- tags
 
 noted_in_lem : (m : Machine) → Reached m → (t : ℕ) → Reached (with_state m (noted_in m.state t))
-noted_in_lem m h t =
-    reached_rest m h _
-    (assumption (field_lt t 0 16, field_lt t 16 16, both (λ (n : ℕ). n < 2 ^ 16) (right_key m.state.common t) (field_lt t 0 16) h.rest.events.code))
+noted_in_lem m h t = grind arith
 
 abbrev ReachedIn : Machine → Crate → Type 0
 ReachedIn m s = Reached (with_state m s)
@@ -338,14 +333,7 @@ reached_tag m h t =
 replaced_in : (memory : List ℕ) (d : ℕ) (words : List ℕ) → length memory ≡ 16384 → length words ≡ 512 → d < 32 →
     ((a : ℕ) → word_at memory a < 2 ^ 16) → ((i : ℕ) → get_or words i 0 < 2 ^ 16) → (a : ℕ) → word_at (replaced memory (512 * d) words) a < 2 ^ 16
 unfolding word_at replaced
-replaced_in memory d words size n d< p q a =
-    let fits : 512 * d + length words ≤ length memory = omega arith in
-    cases (ltb a (512 * d))
-    (λ e. rw (get_or_before memory (512 * d) words fits a (ltb-true a (512 * d) e)) (p a))
-    (λ e.
-    cases (ltb a (512 * d + length words))
-    (λ f. rw (get_or_inside memory (512 * d) words fits a (ltb-false a (512 * d) e) (ltb-true a _ f)) (q (a - 512 * d)))
-    (λ f. rw (get_or_behind memory (512 * d) words fits a (ltb-false a _ f)) (p a)))
+replaced_in memory d words size n d< p q a = grind (arith, common_steps)
 
 reached_download : (m : Machine) → Reached m → (d : ℕ) (words : List ℕ) → ((i : ℕ) → get_or words i 0 < 2 ^ 16) → Reached (called m (download d words))
 unfolding called

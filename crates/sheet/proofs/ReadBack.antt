@@ -10,6 +10,7 @@ use lib.Dec.{eqb, ltb}
 use lib.ListN.{get_or, length, length-set, get_or-eq_default, set}
 use lib.Pow.{pow_mono, pow_pos}
 use lib.Seq.{get_or-set_same, get_or-set_other}
+use Rattle.std.proofs.lemmas.Grind.{common_steps}
 use Rattle.bools.specs.Pick.{pick}
 use Rattle.std.proofs.Common.{Ok, Option}
 use Rattle.words.specs.Word.{bit, fields, pack}
@@ -195,8 +196,7 @@ setting_back s h (Selection j) l w = get_or-set_same s.rest.selections j _ 0 (om
 -- a request that is refused stores nothing, and is no accepted write
 reload_back : (w : ℕ) (cm : Common) → reload_answer w cm ≡ Ok tt → (reload_write w cm).reload ≡ kept Reload w
 unfolding reload_write
-reload_back w cm e =
-    ap (λ (b : Bool). (pick b (with_reload (kept Reload w) (pick (triggers w cm) (requested w cm) cm)) cm).reload) (ap (is_done {A = Unit}) e)
+reload_back w cm e = grind arith
 
 back_at : (m : Machine) → Sized m → RestIn m → (r : Register) → InMap r → (w : ℕ) → write_answer m.state.common r w ≡ Ok tt →
     with_word (answer_for r) (word_in (write_at m r w) r) ≡ Ok (kept r w)
@@ -229,10 +229,7 @@ read_back l a w e =
 -- one element is written: P holds there, and of the others as they stand
 set_at : {A : Type 0} (P : ℕ → A → Type 0) (xs : List A) (i : ℕ) (a d : A) → i < length xs → P i a → ((j : ℕ) → P j (get_or xs j d)) →
     (j : ℕ) → P j (get_or (set xs i a) j d)
-set_at P xs i a d h p q j =
-    cases (eqb j i)
-    (λ e. rw (eqb-true j i e, get_or-set_same xs i a d h) p)
-    (λ e. rw (get_or-set_other xs i j a d (eqb-false j i e)) (q j))
+set_at P xs i a d h p q j = grind (arith, common_steps)
 
 -- every element steps: P holds of what it becomes, and of what stands past the end
 each_at : {A : Type 0} (P : ℕ → A → Type 0) (n : ℕ) (d : A) (g : ℕ → A → A) (xs : List A) → length xs ≡ n →
@@ -300,32 +297,12 @@ record Apart (r : Register) (m n : Machine) : Type 0 where
 status_apart : (r : Register) (m n : Machine) → Apart r m n → (q : Status) → follows r (Readout q) ≡ false →
     status_word m.state q ≡ status_word n.state q
 unfolding status_word overflow_word gate_bits outputs_of state_word
-status_apart r m n h (Module k) f = refl
-status_apart r m n h (Negative k) f = λ i. pack 16 (λ b. (h.counters (16 * k + b)).under k f i)
-status_apart r m n h (Positive k) f = λ i. pack 16 (λ b. (h.counters (16 * k + b)).over k f i)
-status_apart r m n h GateErrors f = λ i. pack 12 (λ g. is_error ((h.gates g).state i))
-status_apart r m n h (WatchdogErrors k) f = h.rest.errors k f
-status_apart r m n h GateInputs f = h.rest.gatelevels
-status_apart r m n h GateOutputs f = λ i. pack 12 (λ g. (h.gates g).output i)
-status_apart r m n h Outputs f = h.outputs f
-status_apart r m n h (GateStates k) f = λ i. fields 4 4 (λ j. state_number ((h.gates (4 * k + j)).state i))
-status_apart r m n h TagLow f = λ i. (h.rest.events i).low
-status_apart r m n h TagHigh f = λ i. (h.rest.events i).high
-status_apart r m n h Code f = λ i. (h.rest.events i).code
-status_apart r m n h LoaderState f = λ i. pick (h.common.busy i) 3 0
-status_apart r m n h LoaderCounter f = λ i. (h.rest.events i).handled
-status_apart r m n h (Count k) f = λ i. half_of k ((h.counters (k / 2)).count k f i)
-status_apart r m n h (Raw k) f = λ i. low_first k (raw_at (h.rest.rawcounts i) (k / 2))
-status_apart r m n h (Threshold k) f =
-    λ i. half_of k (pick (ltb (k % 4) 2) ((h.counters (k / 4)).positive i) ((h.counters (k / 4)).negative i))
+status_apart r m n h q f = grind arith
 
 setting_apart : (r : Register) (m n : Machine) → Apart r m n → (q : Setting) → (r ≡ Other q → ⊥) →
     setting_word m.state q ≡ setting_word n.state q
 unfolding setting_word
-setting_apart r m n h (Mask k) d = h.rest.masks k d
-setting_apart r m n h WatchdogTimeout d = h.rest.timeout d
-setting_apart r m n h (WatchdogReset k) d = h.rest.resets k d
-setting_apart r m n h (Selection j) d = h.rest.selections j d
+setting_apart r m n h q d = grind arith
 
 word_apart : (r : Register) (m n : Machine) → Apart r m n → (q : Register) → (r ≡ q → ⊥) → follows r q ≡ false → word_in m q ≡ word_in n q
 unfolding word_in gate_bits
@@ -415,10 +392,7 @@ recover_apart b g x = record { mode = λ d. refl; prepare = λ d. refl; recover 
 timeout_apart : (g t : ℕ) (gates : List Gate) → g < length gates →
     GatesApart (Timeout g) (set gates g (with_timeout t (gate_at gates g))) gates
 unfolding gate_at
-timeout_apart g t gates h =
-    set_at (λ j x. GateApart (Timeout g) j x (get_or gates j gate0)) gates g _ gate0 h
-    (record { mode = λ d. refl; prepare = λ d. refl; recover = λ d. refl; timeout = λ d. absurd (d refl); state = refl; output = refl })
-    (λ j. assumption)
+timeout_apart g t gates h = grind (arith, common_steps)
 
 -- RESET, or one counter's input register
 
@@ -440,20 +414,14 @@ control_apart w xs size n =
 
 input_apart : (n t : ℕ) (xs : List Counter) → n < length xs → CountersApart (Input n) (set xs n (with_input (counter_at xs n) t)) xs
 unfolding counter_at
-input_apart n t xs h =
-    set_at (λ j x. CounterApart (Input n) j x (get_or xs j counter0)) xs n _ counter0 h
-    (record { count = λ k f. refl; under = λ k f. refl; over = λ k f. refl; positive = refl; negative = refl; input = λ d. absurd (d refl) })
-    (λ j. assumption)
+input_apart n t xs h = grind (arith, common_steps)
 
 -- the registers that all counters share
 
 reload_same : {A : Type 0} (f : Common → A) (w : ℕ) (cm : Common) → ((v : ℕ) (x : Common) → f (with_reload v x) ≡ f x) →
     f (requested w cm) ≡ f cm → f (reload_write w cm) ≡ f cm
 unfolding reload_write
-reload_same f w cm e q =
-    both (λ (x : Common). f x ≡ f cm) (is_done (reload_answer w cm))
-    (e (kept Reload w) (pick (triggers w cm) (requested w cm) cm) ∙ both (λ (x : Common). f x ≡ f cm) (triggers w cm) q refl)
-    refl
+reload_same f w cm e q = grind arith
 
 reload_apart : (w : ℕ) (cm : Common) → CommonApart Reload (reload_write w cm) cm
 unfolding requested
@@ -497,8 +465,7 @@ mask_apart k w x = assumption (word_apart_from (λ i. Other (Mask i)) x.masks k 
 
 watchdog_timeout_apart : (w : ℕ) (x : Rest) → RestApart (Other WatchdogTimeout) (rest_write WatchdogTimeout w x) x
 unfolding rest_write
-watchdog_timeout_apart w x =
-    let t : (Other WatchdogTimeout ≡ Other WatchdogTimeout → ⊥) → kept (Other WatchdogTimeout) w ≡ x.timeout = λ d. absurd (d refl) in assumption
+watchdog_timeout_apart w x = grind arith
 
 watchdog_reset_apart : (k w : ℕ) (x : Rest) → RestSized x → RestApart (Other (WatchdogReset k)) (rest_write (WatchdogReset k) w x) x
 unfolding rest_write

@@ -78,16 +78,13 @@ pulses_same f pulse law t gates size e =
     (λ g h. law (bit t g) (gate_at gates g) (every_each 12 (λ g. pulse (gate_at gates g) || not (bit t g)) e g h))
 
 adds_nothing : (p b : Bool) → p || not b ≡ true → p || b ≡ p
-adds_nothing true b e = refl
-adds_nothing false b e = not-true b e
+adds_nothing p b e = grind arith
 
 no_prepare : (b : Bool) (g : Gate) → prepare_pulse g || not b ≡ true → with_prepare_pulse b g ≡ g
-no_prepare b g e =
-    ap (λ (x : Bool). gate_with g g.timeout g.mode g.prepare g.recover x g.recoverpulse) (adds_nothing g.preparepulse b e)
+no_prepare b g e = grind arith
 
 no_recover : (b : Bool) (g : Gate) → recover_pulse g || not b ≡ true → with_recover_pulse b g ≡ g
-no_recover b g e =
-    ap (λ (x : Bool). gate_with g g.timeout g.mode g.prepare g.recover g.preparepulse x) (adds_nothing g.recoverpulse b e)
+no_recover b g e = grind arith
 
 -- a gate's timeout
 timeout_same : (gates : List Gate) (g w : ℕ) → w ≡ (gate_at gates g).timeout → set gates g (with_timeout w (gate_at gates g)) ≡ gates
@@ -140,8 +137,7 @@ refused_same t cm e = rw e refl
 
 -- a choice that leaves z, where the test of each branch holds
 idle_pick : {A : Type 0} (b : Bool) {p q : Bool} {x y z : A} → (p ≡ true → x ≡ z) → (q ≡ true → y ≡ z) → pick b p q ≡ true → pick b x y ≡ z
-idle_pick true f g e = f e
-idle_pick false f g e = g e
+idle_pick b f g e = grind arith
 
 command_same : (s : Sheet) → Formed s → (t : ℕ) → idle_command s t ≡ true → sheet_command s t ≡ s
 unfolding idle_command sheet_command
@@ -206,8 +202,7 @@ formed_tag s f t =
 -- the loader leaves the count, and RESET holds it
 load_count : (c : ℕ) (l : Option Reload) (group : ℕ) (memory : List ℕ) (x : Counter) → (sheet_load c l group memory x).count ≡ x.count
 unfolding sheet_load loaded
-load_count c None group memory x = refl
-load_count c (Some l) group memory x = both (λ (y : Counter). y.count ≡ x.count) (eqb c l.next && takes l group) refl refl
+load_count c l group memory x = grind arith
 
 held_zero : (control rises was is : ℕ) (x : Counter) → reset_on control ≡ true → (counter_tick control rises was is x).count ≡ pos 0
 unfolding counter_tick counter_step

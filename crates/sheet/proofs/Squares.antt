@@ -8,6 +8,7 @@ use mathlib.Core.Path.{◌≡◌, refl, sym, ap, ◌∙◌}
 use borrow.Author.Tests.{eqb-true, eqb-false, eq-eqb, ne_eqb, ltb-true, ltb-false}
 use lib.Dec.{eqb, ltb}
 use lib.ListN.{length, get_or, set}
+use Rattle.std.proofs.lemmas.Grind.{common_steps}
 use Rattle.std.proofs.Common.{Option, Some, None}
 use Rattle.bools.specs.Pick.{pick}
 use Rattle.words.specs.Word.{masked_bits}
@@ -63,13 +64,7 @@ module _ (c : ℕ) (c< : c < 128) where
 
   own_place_is : (a : ℕ) → a % 512 / 4 ≡ c → (k : ℕ) → k < 128 → eqb (own_place c k) a ≡ eqb k (own_word a)
   unfolding own_place
-  own_place_is a e k h =
-      agree _ a k _
-      (λ p. let z = parts (k / 4) c (k % 4) a c< (mod-lt k (omega arith)) p in rw (z.0, z.1) (sym (rebuilt k)))
-      (λ p. back (k / 4) (k % 4) (omega arith) (omega arith))
-    where
-      back : (q r : ℕ) → q ≡ a / 512 → r ≡ a % 4 → place_of q c + r ≡ a
-      back q r u v = rw (u, v, ← e) (whole a)
+  own_place_is a e k h = grind arith
 
   own_place_not : (a : ℕ) → (a % 512 / 4 ≡ c → ⊥) → (k : ℕ) → k < 128 → eqb (own_place c k) a ≡ false
   unfolding own_place
@@ -128,12 +123,7 @@ module _ (S : Lines) (c : ℕ) (c< : c < 128) (m : Machine) (size : Sized m) whe
 
   input_square : (n w : ℕ) → sheet_in S c (write_at m (Input n) w) ≡ sheet_step_by c (sheet_in S c m) (own_at S c (Input n) w)
   unfolding sheet_in write_at own_at sheet_step counter_at kept
-  input_square n w =
-      let law : (v : Counter) → get_or (set m.state.counters n v) c counter0 ≡ pick (eqb c n) v (get_or m.state.counters c counter0) =
-      λ v. get_d_set m.state.counters n v c counter0 (omega (arith, size.counters)) in
-      cases (eqb c n)
-      (λ e. rw e (ap (put_counter (sheet_in S c m)) (law _ ∙ rw (e, ← (eqb-true c n e)))))
-      (λ e. rw e (ap (put_counter (sheet_in S c m)) (law _ ∙ rw e)))
+  input_square n w = grind (arith, common_steps)
 
   timeout_square : (g w : ℕ) → sheet_in S c (write_at m (Timeout g) w) ≡ sheet_step_by c (sheet_in S c m) (own_at S c (Timeout g) w)
   unfolding sheet_in write_at own_at sheet_step
@@ -230,19 +220,7 @@ module _ (S : Lines) (c : ℕ) (c< : c < 128) (m : Machine) (size : Sized m) whe
       word_at (replaced m.memory (512 * d) words) (place_of q c + r)
       ≡ pick (eqb q d) (get_or words (4 * c + r) 0) (word_at m.memory (place_of q c + r))
   unfolding word_at replaced
-  replaced_at d words p d< q r q< r< =
-      let fits : 512 * d + length words ≤ length m.memory = omega (arith, size.memory) in
-      cases (eqb q d)
-      (λ e.
-      let f : q ≡ d = eqb-true q d e in
-      rw e
-      (get_or_inside m.memory (512 * d) words fits (place_of q c + r) (omega arith) (omega arith)
-      ∙ ap (λ (n : ℕ). get_or words n 0) (omega arith)))
-      (λ e.
-      rw e
-      (cases (ltb q d)
-      (λ f. get_or_before m.memory (512 * d) words fits _ (omega (arith, ltb-true)))
-      (λ f. get_or_behind m.memory (512 * d) words fits _ (omega (arith, ltb-false q d f, eqb-false q d e)))))
+  replaced_at d words p d< q r q< r< = grind (arith, common_steps)
 
   download_words : (d : ℕ) (words : List ℕ) → length words ≡ 512 → d < 32 →
       own_words c (replaced m.memory (512 * d) words) ≡ put_four (own_words c m.memory) d (four_of c words)
