@@ -45,10 +45,7 @@ fn module_word(k: u16) -> u16
 fn counter_at(counters: &[Counter; 128], n: u16) -> Counter
     ensures { result ≡ counter_at counters.now n }
 {
-    counters
-        .get(n as usize)
-        .copied()
-        .unwrap_or(Counter::default())
+    counters.get(n as usize).copied().unwrap_or_default()
 }
 
 // Gate g; past the twelve one as at power-up.
