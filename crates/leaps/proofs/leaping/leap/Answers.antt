@@ -1,6 +1,5 @@
 -- `leap` meets its contract: the parts' contracts, and the rises from a table (`table_rises`).
 use borrow.Author.Rules.{rules}
-use mathlib.Core.Path.{refl}
 use Rattle.gates.specs.Gate.{output, outputs_of}
 use Rattle.counters.proofs.Leaps.{table_rises}
 use Rattle.lines.specs.Leap.{rises_in}
@@ -20,7 +19,6 @@ returns c =
         c.gate_bits-is.ensures output (λ g b p. search (rules, p)),
         c.rises_in-rises.ensures,
         table_rises s.common.control (outputs_of s.gates) (rises_in a.k s.common.phases) s.counters,
-      )
-          refl,
+      ),
       record { counters = c.leap_counters.ensures.1; rawcounts = c.leap_rest.ensures.1 },
     )
