@@ -4,6 +4,7 @@ ghost use Rattle.records.specs.declared.Stop.TheVariants.{End};
 ghost use Rattle.registers.specs.Calls.{from};
 ghost use Rattle.registers.specs.Calls.{tick as call_tick};
 ghost use Rattle.device.specs.State.{machine};
+ghost use Rattle.lines.specs.Lines.{bad_levels};
 ghost use Rattle.trace.specs.Leaping.{SameEnd};
 ghost use Rattle.trace.specs.Run.{once_of, passed, progress_of, repeated, report_of, run_of, ticks_in};
 ghost use Rattle.trace.specs.Run.{run as run_run};
@@ -31,15 +32,10 @@ fn leap_on(state: &mut Crate, left: u64, levels: Levels) -> u64
 }
 
 // So many ticks at the same levels: a tick, and then the quiet ticks behind it at once. At the levels of the last tick the first may be quiet too.
-fn tick_on(state: &mut Crate, mem: &[u16], n: u64, levels: Levels)
+fn tick_on(state: &mut Crate, mem: &[u16; 16384], n: u64, levels: Levels)
+    requires { bad_levels levels.inputs levels.gates ≡ false }
     ensures { machine state.new mem.now ≡ from (machine state.old mem.now) (repeated n (call_tick levels.inputs levels.gates)) }
 {
-    if mem.len() != 16384 {
-        return;
-    }
-    if levels.are_bad() {
-        return;
-    }
     let mut left = n;
     if bools::both(state.levels == levels.inputs, WORTH <= left) {
         left = leap_on(state, left, levels);
@@ -109,7 +105,7 @@ impl<'a> Running<'a> {
     fn run_ticks(
         &mut self,
         state: &mut Crate,
-        mem: &[u16],
+        mem: &[u16; 16384],
         n: u64,
         levels: Levels,
     ) -> Result<(), Stop>
@@ -131,7 +127,7 @@ impl<'a> Running<'a> {
     }
 
     // One record: what it does, or why the run stops before it.
-    fn once(&mut self, state: &mut Crate, mem: &mut [u16]) -> Result<(), Stop>
+    fn once(&mut self, state: &mut Crate, mem: &mut [u16; 16384]) -> Result<(), Stop>
         requires { Sound self.old.trace.now self.old.budget (so_far self.old) × (self.old.budget < 2 ^ 64) }
         ensures { (run_run (turned result state.new (so_far self.new)) mem.new ≡ once_of self.old.trace.now self.old.budget (run_run (progress_of state.old (so_far self.old) true) mem.old))
             × SameTrace self.old self.new }
@@ -152,9 +148,9 @@ pub fn run(state: &mut Crate, mem: &mut [u16], trace: &[u8], budget: u64) -> Rep
     ensures { run_run (progress_of state.new result false) mem.new ≡ run_of trace.now budget (machine state.old mem.old) }
 {
     let mut running = Running::new(trace, budget);
-    if mem.len() != 16384 {
+    let Some(mem) = mem.as_mut_array() else {
         return running.report(Stop::Memory);
-    }
+    };
     // each record moves the offset on, so a run stops at the end of the trace at the latest
     loop {
         if let Err(stop) = running.once(state, mem) {

@@ -15,24 +15,26 @@ use Rattle.trace.proofs.Halts.{begun_ended, ended, goes_on, place, stops_here}
 use Rattle.trace.proofs.Steps.{once_sound}
 use Rattle.trace.proofs.running.run.Goals as goal
 
-pub returns-then-mem-ne16384 : goal.returns-then-mem-ne16384
+pub returns-in_default : goal.returns-in_default
 unfolding run_of
-returns-then-mem-ne16384 c =
+returns-in_default c =
     let a = c.args in
-    rw (c.report.ensures, ne_eqb (length a.mem.now) 16384 c.if-mem-ne16384.true)
+    rw (c.report.ensures, ne_eqb (length a.mem.now) 16384 c.in_default.ensures.cases)
     (ap (λ (r : Report). run (progress_of a.state.now (stopped r Memory) false) a.mem.now) c.new-running.ensures.0)
 
 pub loop-stop-init : goal.loop-stop-init
 loop-stop-init c =
     let a = c.args in
     let begun = c.new-running.ensures in
+    let whole = c.in-Some.ensures.cases in
     record {
       trace = begun.1;
       budget = begun.2;
       sound = rw begun.0 (record { place = omega arith; passes = omega arith; refusals = omega arith; spent = omega arith });
       same =
-          ap (λ (r : Report). ended a.trace.now a.budget (run (progress_of a.state.now r true) a.mem.now)) begun.0
-          ∙ begun_ended a.trace.now a.budget (machine a.state.now a.mem.now) c.if-mem-ne16384.false;
+          rw whole.same
+          (ap (λ (r : Report). ended a.trace.now a.budget (run (progress_of a.state.now r true) a.mem.now)) begun.0
+          ∙ begun_ended a.trace.now a.budget (machine a.state.now a.mem.now) whole.long);
     }
 
 pub once-requires : goal.once-requires
@@ -59,7 +61,7 @@ loop-stop-smaller c =
     let i = l.invariant in
     let r : Run = run (progress_of l.state (so_far l.running) true) l.mem in
     let turn : run (progress_of c.once.new.state (so_far c.once.new.self) true) c.once.new.mem ≡ once_of t budget r =
-    rw (c.in_default.is, i.trace, i.budget) at c.once.ensures.0 in
+    rw (c.in_default-once.is, i.trace, i.budget) at c.once.ensures.0 in
     subst (λ (q : Run). length t - place q < length t - place r) (sym turn)
     (goes_on t budget r refl i.sound.place (ap (λ (q : Run). q.progress.going) (sym turn))).1
 
@@ -71,7 +73,7 @@ loop-stop-preserved c =
     let i = l.invariant in
     let r : Run = run (progress_of l.state (so_far l.running) true) l.mem in
     let turn : run (progress_of c.once.new.state (so_far c.once.new.self) true) c.once.new.mem ≡ once_of t budget r =
-    rw (c.in_default.is, i.trace, i.budget) at c.once.ensures.0 in
+    rw (c.in_default-once.is, i.trace, i.budget) at c.once.ensures.0 in
     record {
       trace = c.once.ensures.1.trace ∙ i.trace;
       budget = c.once.ensures.1.budget ∙ i.budget;
