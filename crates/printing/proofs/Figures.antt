@@ -8,7 +8,7 @@ use lib.ListN.{replicate, take}
 use Rattle.lists.specs.Checks.{Row, row, right}
 use Rattle.registers.proofs.Computing.{computing}
 use Rattle.registers.specs.Calls.{machine0}
-use Rattle.records.specs.Records.{number_at, next_at, ticks_at, payload_at, record_at}
+use Rattle.records.specs.Records.{number_at, levels_at, next_at, ticks_at, payload_at, record_at}
 use Rattle.trace.specs.Run.{passes, repeated, ticks_in, by_record, once_of, run_from, run_of}
 use Rattle.printing.specs.Printed.{program_bytes, program_run, program_ticks}
 
@@ -32,7 +32,7 @@ figures =
     ∷ []
 
 pub figures_right : right figures ≡ true
-unfolding computing figures number_at next_at ticks_at payload_at record_at passes repeated ticks_in by_record once_of run_from run_of program_run
+unfolding computing figures number_at levels_at next_at ticks_at payload_at record_at passes repeated ticks_in by_record once_of run_from run_of program_run
 figures_right = refl
 
 -- so runs the program, whatever its input is. As a record has 7 or 14 bytes, no report tells 65,535 bytes from 65,536: both end within a header
