@@ -1,7 +1,7 @@
 -- The theorems about lists of calls, of the code: a crate and memory that went through `power_up`, calls, reads, scans and trace runs, by the
 -- contracts of those functions alone, are those of `after`. So each theorem holds of what the functions return.
 use Prim.Native.Nat.{ℕ, suc, ◌+◌, ◌*◌, ◌/◌, ◌≤◌, ◌<◌}
-use mathlib.Core.Bool.{Bool, true, false}
+use mathlib.Core.Bool.{true, false}
 use mathlib.Core.List.{List, [], ◌∷◌, ◌++◌}
 use mathlib.Core.Path.{◌≡◌, refl, sym, ap, subst, ◌∙◌}
 use borrow.Author.Tests.{eq-eqb}
@@ -14,7 +14,7 @@ use Rattle.device.specs.declared.answer.Refusal.{Refusal}
 use Rattle.device.specs.declared.state.Crate.{Crate}
 use Rattle.device.specs.Answer.{Answer, is_done, number_of}
 use Rattle.device.specs.Map.{decode_of, kept}
-use Rattle.device.specs.State.{Machine, machine}
+use Rattle.device.specs.State.{Machine}
 use Rattle.interlocks.specs.declared.scan.OutputScan.{OutputScan}
 use Rattle.interlocks.specs.Interlock.{trips}
 use Rattle.interlocks.specs.Scan.{scan_of}
@@ -34,7 +34,7 @@ use Rattle.sheet.specs.Sheet.{sheet_after, sheet_shows}
 use Rattle.sheet.specs.Shows.{shows}
 use Rattle.sheet.proofs.Finishes.{full_after}
 use Rattle.sheet.proofs.Isolation.{holds_begin}
-use Rattle.sheet.proofs.Theorems.{alike, alike_cut, alike_settled, alike_settled_cut, finishes, isolation_each, isolation_within, raw_alike, raw_reads, reachable, read_back, read_other, refused, run_halts, run_records, run_refusals, run_sound, run_stops, run_ticks, scan_ends, scan_least, scan_level, scan_whole, stands}
+use Rattle.sheet.proofs.Theorems.{alike, alike_cut, alike_settled, alike_settled_cut, finishes, isolation_each, isolation_within, raw_alike, raw_reads, reachable, read_back, read_other, refused, run_records, run_refusals, run_sound, run_stops, run_ticks, scan_ends, scan_least, scan_level, scan_whole, stands}
 use Rattle.sheet.proofs.Kept.{holds_all}
 use Rattle.trace.specs.declared.Report.{Report}
 use Rattle.trace.specs.Passed.{calls_in, passed_in}

@@ -2,7 +2,7 @@
 -- the file that does the work. What is asked of the functions (`Acted`, `Saw`, `Rehearsed`) is their contracts and no more (Contracts.antt).
 use Prim.Native.Nat.{ℕ, suc, ◌+◌, ◌-◌, ◌*◌, ◌/◌, ◌<◌, ◌≤◌}
 use mathlib.Core.Bool.{true, false}
-use mathlib.Core.List.{List, [], ◌∷◌, ◌++◌}
+use mathlib.Core.List.{List, ◌∷◌, ◌++◌}
 use mathlib.Core.Path.{◌≡◌, refl, sym, ap, subst, ◌∙◌}
 use borrow.Author.Tests.{eq-eqb}
 use lib.ListN.{get_or, length}
