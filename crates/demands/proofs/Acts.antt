@@ -28,9 +28,9 @@ use Rattle.demands.specs.Seen.{Act, calling, reading, scanning, tracing, Seen, a
 -- one act
 pub acted : (m : Machine) (x : Act) (seen : Seen) (n : Machine) → Acted m x seen n → (seen ≡ showing m x) × (n ≡ leaving m x)
 unfolding Acted showing calls_by from
-acted m (calling x) seen n w = (w.4 ∙ ap (answered w.0) w.3 ∙ ap (λ (a : Answer). answered a (number_of a)) w.2.0, w.2.1)
-acted m (reading a) seen n w = (w.4 ∙ ap (told w.0) w.3 ∙ ap (λ (q : Result ℕ Refusal). told q (number_of q)) w.2, w.5)
-acted m scanning seen n w = (w.4 ∙ ap (scanned w.0) w.3 ∙ ap (λ (q : Result (List OutputScan) Refusal). scanned q (number_of q)) w.2, w.5)
+acted m (calling x) seen n w = (cc, w.2.1)
+acted m (reading a) seen n w = (cc, w.5)
+acted m scanning seen n w = (cc, w.5)
 acted m (tracing t budget) seen n w = (
   w.6 ∙ ap (reported w.1) w.5 ∙ ap (λ (r : Run). numbered r.progress.report) w.4,
   w.7 ∙ ap machine_of w.4 ∙ run_is_list t budget m,
@@ -42,29 +42,20 @@ unfolding Went from list_from seen_from
 went m [] seen n w = w
 went m (x ∷ l) seen n w =
     let one = acted m x w.0 w.2 w.3 in
-    let more = went w.2 l w.1 n w.5 in (
-      w.4 ∙ (λ i. one.0 i ∷ more.0 i) ∙ ap {B = List Seen} (λ (k : Machine). showing m x ∷ seen_from k l) one.1,
-      more.1 ∙ ap (λ (k : Machine). from k (list_from k l)) one.1 ∙ sym (from_append m (calls_by m x) (list_from (leaving m x) l)),
-    )
+    let more = went w.2 l w.1 n w.5 in (cc, cc (from_append m (calls_by m x) (list_from (leaving m x) l)))
 
 -- power-up on a memory of 16,384 words
 powered_up : (memory : List ℕ) → is_whole memory ≡ true → (r : Crate × Answer) (left : List ℕ) → Powered memory r left →
     (r.1 ≡ Ok tt) × (machine r.0 left ≡ machine0)
 unfolding powered powered_memory
-powered_up memory e r left up = (ap (λ (o : Crate × Answer). o.1) up.0 ∙ rw e, (λ i. machine (up.0 i).0 (up.1 i)) ∙ rw e)
+powered_up memory e r left up = (rw (up.0, e), rw (up.0, up.1, e))
 
 -- from power-up on
 pub saw : (l : List Act) (seen : List Seen) (n : Machine) → Saw l seen n → (seen ≡ seen_of l) × (n ≡ after (list_of l))
 unfolding Saw after list_of seen_of
 saw l seen n h =
     let up = powered_up h.0 h.1 h.2 h.3 h.6 in
-    let on = went _ l h.5 n h.9 in (
-      h.8
-          ∙ ap {B = List Seen} (λ (k : ℕ). answered h.2.1 k ∷ h.5) h.7
-          ∙ (λ i. answered (up.0 i) (number_of (up.0 i)) ∷ on.0 i)
-          ∙ ap {B = List Seen} (λ (k : Machine). answered (Ok tt) 0 ∷ seen_from k l) up.1,
-      on.1 ∙ ap (λ (k : Machine). from k (list_from k l)) up.1,
-    )
+    let on = went _ l h.5 n h.9 in (cc, cc)
 
 -- what went through power-up and all acts is what `after` says of the list of calls
 pub rehearsed : (l : List Act) (n : Machine) → Rehearsed l n → n ≡ after (list_of l)

@@ -44,18 +44,6 @@ module _ (t : List ℕ) (budget : ℕ) where
   unfolding once_of record_at payload_at ticks_at levels_at by_record ticks_in checks gone_by calls_of
   once r = grind (arith, called)
 
-  stops_there : (r : Run) (x : Found) (stop : Stop) → (gone_by t r x (stopped stop)).progress.going ≡ false
-  unfolding gone_by
-  stops_there r x stop = refl
-
-  refused_goes : (r : Run) (x : Found) → (gone_by t r x refused_tick).progress.going ≡ true
-  unfolding gone_by passes
-  refused_goes r x = refl
-
-  passed_goes : (r : Run) (x : Found) → (gone_by t r x passed_on).progress.going ≡ true
-  unfolding gone_by passes
-  passed_goes r x = refl
-
   -- a run that has halted, and whose next record makes of it what it is
   halted_by : (r : Run) (x : Found) (f : Fate) → r ≡ gone_by t r x f → r.progress.going ≡ false → stopped r.progress.report.stop ≡ f
   unfolding gone_by passes
@@ -68,7 +56,7 @@ module _ (t : List ℕ) (budget : ℕ) where
 
   -- a run that goes, with turns enough to halt, goes record by record
   goes_from : (fuel : ℕ) (r : Run) → r.progress.going ≡ true → (run_from fuel t budget r).progress.going ≡ false → Goes t budget (run_from fuel t budget r) r
-  unfolding run_from
+  unfolding run_from gone_by passes
   goes_from zero r e h = absurd (true≢false (sym e ∙ h))
   goes_from (suc fuel) r e h = by (goes_from fuel (next_run t budget r)) (fate r) refl
     where
@@ -81,15 +69,12 @@ module _ (t : List ℕ) (budget : ℕ) where
       next_turn = sym (turn t budget fuel r e) ∙ ap (run_from fuel t budget) (once r)
 
       on : Rest → (next_run t budget r).progress.going ≡ true → Goes t budget (run_from (suc fuel) t budget r) r
-      on rest g =
-          goes_on r g (rw next_turn (rest g (sym (ap (λ (q : Run). q.progress.going) next_turn) ∙ h)))
+      on rest g = goes_on r g (rw next_turn (rest g (rw next_turn at h)))
 
       by : Rest → (f : Fate) → fate r ≡ f → Goes t budget (run_from (suc fuel) t budget r) r
-      by rest (stopped stop) f =
-          halts r stop f
-          (next_turn ∙ halted_stays t budget fuel (next_run t budget r) (ap (λ (q : Fate). (gone_by t r (next r) q).progress.going) f ∙ stops_there r (next r) stop))
-      by rest refused_tick f = on rest (ap (λ (q : Fate). (gone_by t r (next r) q).progress.going) f ∙ refused_goes r (next r))
-      by rest passed_on f = on rest (ap (λ (q : Fate). (gone_by t r (next r) q).progress.going) f ∙ passed_goes r (next r))
+      by rest (stopped stop) f = halts r stop f (next_turn ∙ halted_stays t budget fuel (next_run t budget r) (rw f))
+      by rest refused_tick f = on rest (rw f)
+      by rest passed_on f = on rest (rw f)
 
   -- so does every run on a memory of 16,384 words, from its beginning
   pub run_goes : (m : Machine) → is_whole m.memory ≡ true → Goes t budget (run_of t budget m) (begun m)

@@ -50,7 +50,7 @@ module _ (l : List Act) (n : Machine) (h : Rehearsed l n) where
   -- with every set of lines that has c's own lines
   pub code_isolation_within : (S : Lines) (c : ℕ) → c < 128 → Holds S (own_lines c (list_of l)) →
       shows c n ≡ sheet_shows (sheet_after c (own_part S c (list_of l)))
-  code_isolation_within S c b holds = ap (shows c) (rehearsed l n h) ∙ isolation_within S c b (list_of l) holds
+  code_isolation_within S c b holds = rw (rehearsed l n h) (isolation_within S c b (list_of l) holds)
 
   pub code_isolation : (c : ℕ) → c < 128 → shows c n ≡ sheet_shows (sheet_after c (own_part_of c (list_of l)))
   code_isolation c b = code_isolation_within (own_lines c (list_of l)) c b (holds_all (own_lines c (list_of l)))
@@ -60,22 +60,17 @@ module _ (l : List Act) (n : Machine) (h : Rehearsed l n) where
       shows c n ≡ sheet_shows (sheet_after c (own_part (own_lines c (list_of (l ++ more))) c (list_of l)))
   unfolding list_of
   code_isolation_each c b more =
-      ap (shows c) (rehearsed l n h)
-      ∙ isolation_each c b (list_of l) (list_from (from machine0 (list_from machine0 l)) more)
-      ∙ ap (λ (calls : List Call). sheet_shows (sheet_after c (own_part (own_lines c calls) c (list_of l)))) (sym (list_append machine0 l more))
+      rw (rehearsed l n h, list_append machine0 l more) (isolation_each c b (list_of l) (list_from (from machine0 (list_from machine0 l)) more))
 
   pub code_reachable : OfWords (list_of l) → Reached n
-  code_reachable o = subst Reached (sym (rehearsed l n h)) (reachable (list_of l) o)
+  code_reachable o = rw (rehearsed l n h) (reachable (list_of l) o)
 
   -- of the calls that the functions made, by themselves or as records of runs: a request that one of them makes stands in the crate where
   -- `stand_after` says, and that is `finished` in time
   module _ (l₁ : List Call) (x : Call) (l₂ : List Call) (cut : list_of l ≡ l₁ ++ (x ∷ l₂)) (q : Request) (made : request_made (after l₁) x ≡ Some q) where
     pub code_stands : Stands n.state.common q (stand_after (step (after l₁) x) l₂ (waits (after l₁).state.common.queue.waiting))
     unfolding after from
-    code_stands =
-        subst (λ (k : Machine). Stands k.state.common q (stand_after (step (after l₁) x) l₂ (waits (after l₁).state.common.queue.waiting)))
-        (sym (rehearsed l n h ∙ ap after cut ∙ from_append machine0 l₁ (x ∷ l₂)))
-        (stands l₁ x q made l₂)
+    code_stands = rw (rehearsed l n h, cut, from_append machine0 l₁ (x ∷ l₂)) (stands l₁ x q made l₂)
 
     pub code_finishes : 128 + 129 * ((after l₁).state.common.queue.waiting + 1) ≤ accepted_ticks l₂ →
         stand_after (step (after l₁) x) l₂ (waits (after l₁).state.common.queue.waiting) ≡ finished
@@ -83,7 +78,7 @@ module _ (l : List Act) (n : Machine) (h : Rehearsed l n) where
 
   -- what a read after the list returns
   pub code_read : (a : ℕ) (q : Result ℕ Refusal) → Looked n a q → q ≡ read_of (after (list_of l)) a
-  code_read a q look = look ∙ ap (λ (k : Machine). read_of k a) (rehearsed l n h)
+  code_read a q look = cc (rehearsed l n h)
 
   -- a read of a raw count
   pub code_raw_reads : (j : ℕ) → j < 108 → (q : Result ℕ Refusal) → Looked n (0x1300 + j) q → q ≡ Ok (low_first j (raw_count (j / 2) (list_of l)))
@@ -91,50 +86,42 @@ module _ (l : List Act) (n : Machine) (h : Rehearsed l n) where
 
   -- what a scan after the list returns
   pub code_scan : (q : Result (List OutputScan) Refusal) → Scanned n q → q ≡ scan_of (after (list_of l))
-  code_scan q scan = scan ∙ ap scan_of (rehearsed l n h)
+  code_scan q scan = cc (rehearsed l n h)
 
   -- and the words that it read make an output 0 where its level is 0
   pub code_scan_ends : (q : Result (List OutputScan) Refusal) → Scanned n q → (o : ℕ) → o < 6 → (scan_at q o).level ≡ false →
       trips n.state o (scan_at q o).words ≡ true
   code_scan_ends q scan o b =
-      let whole : is_whole n.memory ≡ true = ap (λ (k : Machine). is_whole k.memory) (rehearsed l n h) ∙ eq-eqb _ _ (full_after (list_of l)) in
+      let whole : is_whole n.memory ≡ true = rw (rehearsed l n h) (eq-eqb _ _ (full_after (list_of l))) in
       rw scan (scan_ends n o b whole)
 
   -- a write that `write` accepted, and a read after it
   pub code_read_back : (a w : ℕ) (given : Answer) (k : Machine) → Returned n (write a w) given k → given ≡ Ok tt →
       (q : Result ℕ Refusal) → Looked k a q → q ≡ Ok (kept (decode_of a) w)
   code_read_back a w given k back e q look =
-      look
-      ∙ ap (λ (j : Machine). read_of j a) back.1
-      ∙ subst (λ (j : Machine). answer j (write a w) ≡ Ok tt → read_of (step j (write a w)) a ≡ Ok (kept (decode_of a) w))
-      (sym (rehearsed l n h)) (read_back (list_of l) a w) (sym back.0 ∙ e)
+      let accepted : answer (after (list_of l)) (write a w) ≡ Ok tt = cc (rehearsed l n h) in
+      cc (rehearsed l n h, read_back (list_of l) a w accepted)
 
   -- two reads of another register, before a write and after it
   pub code_read_other : (a w b : ℕ) → (a ≡ b → ⊥) → follows (decode_of a) (decode_of b) ≡ false →
       (p : Result ℕ Refusal) → Looked n b p → (given : Answer) (k : Machine) → Returned n (write a w) given k →
       (q : Result ℕ Refusal) → Looked k b q → q ≡ p
-  code_read_other a w b d f p before given k back q look =
-      look
-      ∙ ap (λ (j : Machine). read_of j b) back.1
-      ∙ subst (λ (j : Machine). read_of (step j (write a w)) b ≡ read_of j b) (sym (rehearsed l n h)) (read_other (list_of l) a w b d f)
-      ∙ sym before
+  code_read_other a w b d f p before given k back q look = cc (rehearsed l n h, read_other (list_of l) a w b d f)
 
 -- two rehearsals with the same own part for c: c shows the same
 pub code_alike : (c : ℕ) → c < 128 → (l m : List Act) (n k : Machine) → Rehearsed l n → Rehearsed m k →
     own_part_of c (list_of l) ≡ own_part_of c (list_of m) → shows c n ≡ shows c k
-code_alike c b l m n k h g e =
-    code_isolation l n h c b ∙ ap (λ (parts : List Part). sheet_shows (sheet_after c parts)) e ∙ sym (code_isolation m k g c b)
+code_alike c b l m n k h g e = cc (code_isolation l n h c b, code_isolation m k g c b)
 
 -- two rehearsals that are beginnings of two lists, with the same own part for c so far: c shows the same
 pub code_alike_cut : (c : ℕ) → c < 128 → (l m : List Act) (l₂ m₂ : List Call) (n k : Machine) → Rehearsed l n → Rehearsed m k →
     own_part (own_lines c (list_of l ++ l₂)) c (list_of l) ≡ own_part (own_lines c (list_of m ++ m₂)) c (list_of m) → shows c n ≡ shows c k
-code_alike_cut c b l m l₂ m₂ n k h g e =
-    ap (shows c) (rehearsed l n h) ∙ alike_cut c b (list_of l) l₂ (list_of m) m₂ e ∙ sym (ap (shows c) (rehearsed m k g))
+code_alike_cut c b l m l₂ m₂ n k h g e = rw (rehearsed l n h, rehearsed m k g) (alike_cut c b (list_of l) l₂ (list_of m) m₂ e)
 
 -- what c shows after two lists of calls it shows in whatever crates the functions give for them
 at_cut : (c : ℕ) (l₁ m₁ : List Call) → shows c (after l₁) ≡ shows c (after m₁) →
     (k j : List Act) → list_of k ≡ l₁ → list_of j ≡ m₁ → (n o : Machine) → Rehearsed k n → Rehearsed j o → shows c n ≡ shows c o
-at_cut c l₁ m₁ e k j p q n o h g = ap (shows c) (rehearsed k n h ∙ ap after p) ∙ e ∙ sym (ap (shows c) (rehearsed j o g ∙ ap after q))
+at_cut c l₁ m₁ e k j p q n o h g = rw (rehearsed k n h, rehearsed j o g, p, q) e
 
 -- two rehearsals with the same own part for c, one of them cut anywhere, also within a run or a repeat: the other has a cut with the same own
 -- part before it, and c shows the same in whatever crates the calls up to these cuts gave
@@ -149,16 +136,13 @@ code_alike_within c b l m e l₁ l₂ w =
 pub code_raw_alike : (j : ℕ) → j < 108 → (l m : List Act) (n k : Machine) → Rehearsed l n → Rehearsed m k →
     levels_of (j / 2) (list_of l) ≡ levels_of (j / 2) (list_of m) →
     (p q : Result ℕ Refusal) → Looked n (0x1300 + j) p → Looked k (0x1300 + j) q → p ≡ q
-code_raw_alike j b l m n k h g e p q look again =
-    code_read l n h (0x1300 + j) p look ∙ raw_alike j b (list_of l) (list_of m) e ∙ sym (code_read m k g (0x1300 + j) q again)
+code_raw_alike j b l m n k h g e p q look again = cc (rehearsed l n h, rehearsed m k g, raw_alike j b (list_of l) (list_of m) e)
 
 -- two rehearsals with the same settled part for c, shared registers written for neighbours as they please: c shows the same
 pub code_alike_settled : (c : ℕ) → c < 128 → (l m : List Act) (n k : Machine) → Rehearsed l n → Rehearsed m k →
     settled_part_of c (list_of l) ≡ settled_part_of c (list_of m) → shows c n ≡ shows c k
 code_alike_settled c b l m n k h g e =
-    ap (shows c) (rehearsed l n h)
-    ∙ alike_settled_cut _ _ c b (list_of l) (list_of m) (holds_all _) (holds_all _) e
-    ∙ sym (ap (shows c) (rehearsed m k g))
+    rw (rehearsed l n h, rehearsed m k g) (alike_settled_cut _ _ c b (list_of l) (list_of m) (holds_all _) (holds_all _) e)
 
 -- wherever the calls of one of them are cut, those of the other have a cut with the same settled part before it
 pub code_alike_settled_within : (c : ℕ) → c < 128 → (l m : List Act) → settled_part_of c (list_of l) ≡ settled_part_of c (list_of m) →
@@ -173,13 +157,12 @@ pub code_alike_settled_cut : (c : ℕ) → c < 128 → (l m : List Act) (l₂ m�
     settled c (own_part (own_lines c (list_of l ++ l₂)) c (list_of l)) ≡ settled c (own_part (own_lines c (list_of m ++ m₂)) c (list_of m)) →
     shows c n ≡ shows c k
 code_alike_settled_cut c b l m l₂ m₂ n k h g e =
-    ap (shows c) (rehearsed l n h)
-    ∙ alike_settled_cut _ _ c b (list_of l) (list_of m) (holds_begin c (list_of l) l₂ _ (holds_all _)) (holds_begin c (list_of m) m₂ _ (holds_all _)) e
-    ∙ sym (ap (shows c) (rehearsed m k g))
+    rw (rehearsed l n h, rehearsed m k g)
+    (alike_settled_cut _ _ c b (list_of l) (list_of m) (holds_begin c (list_of l) l₂ _ (holds_all _)) (holds_begin c (list_of m) m₂ _ (holds_all _)) e)
 
 -- a refused call leaves what the table says, for every crate and memory
 pub code_refused : (m : Machine) (x : Call) (a : Answer) (n : Machine) → Returned m x a n → is_done a ≡ false → n ≡ left_by_refusal m x
-code_refused m x a n back e = back.1 ∙ refused m x (sym (ap is_done back.0) ∙ e)
+code_refused m x a n back e = back.1 ∙ refused m x (rw back.0 at e)
 
 -- the levels of a scan are the bits of a read of 0x0719, for every crate and memory
 pub code_scan_level : (m : Machine) (q : Result (List OutputScan) Refusal) → Scanned m q → (p : Result ℕ Refusal) → Looked m 0x0719 p →

@@ -17,7 +17,8 @@ use Rattle.registers.proofs.Lists.{from_append}
 use Rattle.records.specs.declared.Stop.TheVariants.{End}
 use Rattle.records.specs.Records.{Found, next_at, record_at}
 use Rattle.trace.specs.Run.{Run, begun, by_record, machine_of, once_of, passes, repeated, report_of, run_from, run_of, run_on, stops_by, ticks_in}
-use Rattle.trace.proofs.Listed.{halted_stays, run_on_lem}
+use Rattle.trace.proofs.Halts.{turn as turning}
+use Rattle.trace.proofs.Listed.{halted_stays}
 use Rattle.captures.specs.Repeats.{Repeat, expand}
 use Rattle.captures.specs.Written.{Frame, record_bytes, record_of, written}
 use Rattle.captures.proofs.Levels.{Good, good_none, good_more}
@@ -40,7 +41,7 @@ ticks_more r rs =
 
 total_more : (r : Repeat Frame) (rs : List (Repeat Frame)) → length (expand (r ∷ rs)) ≡ r.times + length (expand rs)
 unfolding expand
-total_more r rs = length-append (replicate r.times r.element) (expand rs) ∙ rw length-replicate
+total_more r rs = simp (length-append, length-replicate)
 
 abbrev place : Run → ℕ
 place q = q.progress.report.next
@@ -60,9 +61,7 @@ ended_by_lem t e f g h = λ i. run_on (e i) (report_of End (length t) (f i) (g i
 
 ended_none : (t : List ℕ) (q : Run) → place q ≡ length t → stops_by End q ≡ ended t [] q
 unfolding from expand
-ended_none t q e =
-    ap (λ (at : ℕ). run_on (machine_of q) (report_of End at (used q) q.progress.report.records q.progress.report.refused) false) e
-    ∙ ended_by_lem t refl (sym (add-zero _)) (sym (add-zero _)) refl
+ended_none t q e = rw (e, add-zero, add-zero)
 
 -- a run that passed a record
 abbrev after : List ℕ → Run → Repeat Frame → Run
@@ -81,19 +80,14 @@ module _ (budget : ℕ) where
   once_tick : (t : List ℕ) (q : Run) (r : Repeat Frame) → record_at t (place q) ≡ record_of r → bad_levels r.element.inputs r.element.gates ≡ false →
       used q + r.times ≤ budget → once_of t budget q ≡ passes t q (repeated r.times (tick_of r.element)) r.times false
   unfolding once_of by_record ticks_in
-  once_tick t q r e good h =
-      ap (λ (x : Found). by_record t budget x q) e
-      ∙ rw (good, le-ltb (budget - used q) r.times (omega arith))
+  once_tick t q r e good h = grind arith
 
   once_end : (t : List ℕ) (q : Run) → record_at t (place q) ≡ Err End → once_of t budget q ≡ stops_by End q
   unfolding once_of by_record
-  once_end t q e = ap (λ (x : Found). by_record t budget x q) e
+  once_end t q e = rw e
 
   turn : (t : List ℕ) (fuel : ℕ) (q n : Run) → q.progress.going ≡ true → once_of t budget q ≡ n → run_from (suc fuel) t budget q ≡ run_from fuel t budget n
-  turn t fuel q n g e =
-      let d : suc fuel - 1 ≡ fuel = omega arith in
-      let z : 0 < suc fuel = omega arith in
-      sym (rw d at (run_on_lem t budget (suc fuel) q g z)) ∙ ap (run_from fuel t budget) e
+  turn t fuel q n g e = cc (turning t budget fuel q g)
 
   run_from_lem : (rs : List (Repeat Frame)) → Good rs → (fuel : ℕ) (p : List ℕ) (q : Run) → q.progress.going ≡ true → place q ≡ length p →
       used q + length (expand rs) ≤ budget → length rs < fuel → run_from fuel (p ++ written rs) budget q ≡ ended (p ++ written rs) rs q
