@@ -4,6 +4,7 @@ use native.Mathlib.Omega.{arith}
 use mathlib.Core.Path.{◌≡◌, refl, sym, ap, ◌∙◌}
 use borrow.Author.Tests.{ltb-false, ltb-true}
 use lib.Dec.{ltb}
+use Rattle.std.proofs.lemmas.Bool.Decides.{nat_tests}
 use Rattle.bools.proofs.Tests.{pick_elim}
 use Rattle.device.specs.declared.map.Register.{Register}
 use Rattle.device.specs.declared.map.Register.TheVariants.{Nothing, Readout, Other, Control, Mode, Timeout, Key, Enable, Reload, Prepare, Recover, Input, Group, Word}
@@ -119,11 +120,7 @@ counter_placed a g = grind arith
 
 pub placed : (a : ℕ) → Placed a (decode_of a)
 unfolding decode_of
-placed a =
-    row a 0x0700 _ _ (λ h. backplane_placed a) (λ h.
-    row a 0x0800 _ _ (λ k. status_placed a h) (λ k.
-    row a 0x0900 _ _ (λ l. control_placed a k) (λ l.
-    row a 0x1000 _ _ (λ n. event_placed a l) (λ n. counter_placed a n))))
+placed a = grind (arith, nat_tests, backplane_placed, status_placed, control_placed, event_placed, counter_placed)
 
 pub in_map : (a : ℕ) → InMap (decode_of a)
 in_map a = by (placed a)

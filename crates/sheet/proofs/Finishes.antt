@@ -113,8 +113,7 @@ pub record Still (cm cm' : Common) : Type 0 where
 
 place_grown : (q q' : Queue) → Grown q q' → (k : ℕ) → k < q.waiting → (k < q'.waiting) × (get_or q'.places k request0 ≡ get_or q.places k request0)
 unfolding pushed
-place_grown q q' same k h = (h, refl)
-place_grown q q' (more r w) k h = (omega arith, get_or-set_other q.places q.waiting k r request0 (λ e. omega arith))
+place_grown q q' h k e = grind (arith, get_or-set_other)
 
 stands_still : (cm cm' : Common) → Still cm cm' → (r : Request) (s : Stand) → Stands cm r s → Stands cm' r s
 stands_still cm cm' t r (waits k) (queued j h e) =

@@ -37,8 +37,7 @@ fit_start S c c< = rw (start S c c<) (fits_start S)
 -- what a counter shows in the machine is what its sheet shows
 shows_sheet : (S : Lines) (c : ℕ) → c < 128 → (m : Machine) → Sized m → shows c m ≡ sheet_shows (sheet_in S c m)
 unfolding shows sheet_shows sheet_in
-shows_sheet S c c< m size =
-    λ i. shown (counter_at m.state.counters c) (over_bit m size.memory c c< i) (under_bit m size.memory c c< i)
+shows_sheet S c c< m size = grind (arith, over_bit, under_bit)
 
 -- for every set of lines that has c's own
 pub isolation_in : (S : Lines) (c : ℕ) → c < 128 → (l : List Call) → Holds S (own_lines c l) →

@@ -76,24 +76,11 @@ length_reset w xs p = both (λ (x : List Counter). length x ≡ 128) (reset_on w
 
 sized_tick : (m : Machine) → Sized m → (inputs levels : ℕ) → Sized (with_state m (tick_of m.state m.memory inputs levels))
 unfolding tick_of
-sized_tick m s inputs levels = record {
-  counters = length_load m.state.common.loader m.state.groups m.memory _ (length_ticked _ _ _ _ m.state.counters);
-  groups = s.groups;
-  gates = length_each_gate _ _ m.state.gates;
-  memory = s.memory;
-}
+sized_tick m s inputs levels = grind (arith, length_load, length_ticked, length_each_gate)
 
 sized_write : (m : Machine) → Sized m → (r : Register) (w : ℕ) → Sized (write_at m r w)
 unfolding write_at
-sized_write m s Control w = assumption (length_reset w m.state.counters s.counters)
-sized_write m s Mode w = assumption (length_each_gate with_mode w m.state.gates)
-sized_write m s (Timeout g) w = sized_gates m s _ (length-set m.state.gates g _ ∙ s.gates)
-sized_write m s Prepare w = assumption (length_each_gate with_prepare w m.state.gates)
-sized_write m s Recover w = assumption (length_each_gate with_recover w m.state.gates)
-sized_write m s (Input n) w = sized_counters m s _ (length-set m.state.counters n _ ∙ s.counters)
-sized_write m s (Group k) w = sized_groups m s _ (length-set m.state.groups k _ ∙ s.groups)
-sized_write m s (Word i) w = sized_memory m s _ (length-set m.memory i _ ∙ s.memory)
-sized_write m s r w = assumption
+sized_write m s r w = grind (arith, length_reset, length_each_gate, length-set)
 
 abbrev SizedIn : Machine → Crate → Type 0
 SizedIn m s = Sized (with_state m s)
@@ -173,10 +160,7 @@ lines_write S c r w = grind arith
 
 pub lines_call : (S : Lines) (c : ℕ) (x : Call) → lines_by (own S c x) ≡ lines_in c x
 unfolding own lines_in
-lines_call S c (tick inputs gates) = refl
-lines_call S c (write a w) = lines_write S c (decode_of a) w
-lines_call S c (tag t) = refl
-lines_call S c (download d words) = refl
+lines_call S c x = grind (arith, lines_write)
 
 -- the loader leaves it
 load_input : (c : ℕ) (l : Option Reloading) (group : ℕ) (memory : List ℕ) (x : Counter) → (sheet_load c l group memory x).input ≡ x.input
@@ -204,17 +188,10 @@ module _ (S : Lines) (c : ℕ) (s : Sheet) (fit : Fits S s.counter.input) where
 
   pub fits_part : (p : Part) → Holds S (part_lines p) → Fit (sheet_step c s p)
   unfolding sheet_step
-  fits_part (ticked true inputs gates) h = fit
-  fits_part (ticked false inputs gates) h = fits_tick inputs gates
-  fits_part (patched w) h = fits_word S (kept (Input c) w) (rw (lines_kept c w) h)
-  fits_part (controlled w) h = both FitCounter (reset_on w) fit fit
-  fits_part (tagged t) h = fits_tag t
-  fits_part (downloaded d size four) h = both Fit (is_done (download_answer d size)) fit fit
-  fits_part p h = fit
+  fits_part p h = grind (arith, fits_tick, fits_word, lines_kept, fits_tag)
 
   fits_by : (o : Option Part) → Holds S (lines_by o) → Fit (sheet_step_by c s o)
-  fits_by None h = fit
-  fits_by (Some p) h = fits_part p h
+  fits_by o h = grind (arith, fits_part)
 
   pub fits : (x : Call) → Holds S (lines_in c x) → Fit (sheet_step_by c s (own S c x))
   fits x h = fits_by (own S c x) (rw (lines_call S c x) h)

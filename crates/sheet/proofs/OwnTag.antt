@@ -39,8 +39,7 @@ module _ (S : Lines) (t : ℕ) where
 
   pub own_tag_command : command_of (own_tag S t) ≡ command_of t
   unfolding own_tag
-  own_tag_command =
-      pick_elim (λ (x : ℕ). command_of x ≡ command_of t) (for_gates t) (λ e. command_of_lem t _ (masked_lt S.gates t)) (λ e. refl)
+  own_tag_command = grind (arith, masked_lt)
 
   -- with any other command it is the tag
   pub own_tag_whole : for_gates t ≡ false → own_tag S t ≡ t

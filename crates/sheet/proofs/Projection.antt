@@ -104,30 +104,19 @@ own_gates_other mine gates size g other v = grind (arith, common_steps)
 pub outputs_own : (mine : ℕ → Bool) (gates : List Gate) (g : ℕ) → (g < 12 → mine g ≡ true) →
     bit (outputs_of gates) g ≡ bit (outputs_of (own_gates mine gates)) g
 unfolding outputs_of
-outputs_own mine gates g fit =
-    cases (ltb g 12)
-    (λ e.
-    let h : g < 12 = ltb-true g 12 e in
-    gate_bit output gates g h ∙ ap output (sym (own_gates_at mine gates g h (fit h))) ∙ sym (gate_bit output (own_gates mine gates) g h))
-    (λ e. gate_bit_past output gates g (ltb-false g 12 e) ∙ sym (gate_bit_past output (own_gates mine gates) g (ltb-false g 12 e)))
+outputs_own mine gates g fit = grind (arith, gate_bit, own_gates_at, gate_bit_past)
 
 -- ---- rises and the counter
 
 pub rise_of_own : (mine : ℕ → Bool) (before now : ℕ) (phases : List ℕ) (u : ℕ) → (u < 54 → mine u ≡ true) →
     rise_of before now phases u ≡ rise_of (masked_bits 54 mine before) (masked_bits 54 mine now) phases u
 unfolding rise_of
-rise_of_own mine before now phases u fit =
-    cases (ltb u 54)
-    (λ e.
-    let h : u < 54 = ltb-true u 54 e in
-    rw (e, bit_masked 54 mine now u h, bit_masked 54 mine before u h, fit h) refl)
-    (λ e. rw e refl)
+rise_of_own mine before now phases u fit = grind (arith, bit_masked)
 
 rises_own : (mine : ℕ → Bool) (before now : ℕ) (phases : List ℕ) (u : ℕ) → u < 64 → (u < 54 → mine u ≡ true) →
     bit (rises_of before now phases) u ≡ bit (rises_of (masked_bits 54 mine before) (masked_bits 54 mine now) phases) u
 unfolding rises_of
-rises_own mine before now phases u h fit =
-    bit_pack 64 _ u h ∙ rise_of_own mine before now phases u fit ∙ sym (bit_pack 64 _ u h)
+rises_own mine before now phases u h fit = grind (arith, bit_pack, rise_of_own)
 
 pub counter_tick_own : (S : Lines) (control before now : ℕ) (phases : List ℕ) (was is : List Gate) (x : Counter) → Fits S x.input →
     counter_tick control (rises_of before now phases) (outputs_of was) (outputs_of is) x
@@ -148,14 +137,7 @@ counter_tick_own S control before now phases was is x fit =
 pub own_words_at : (c : ℕ) → c < 128 → (memory : List ℕ) → length memory ≡ 16384 → (d j : ℕ) → j < 4 →
     word_at (own_words c memory) (4 * d + j) ≡ word_at memory (place_of d c + j)
 unfolding own_words word_at own_place
-own_words_at c c< memory size d j j< =
-    cases (ltb d 32)
-    (λ e.
-    let h : d < 32 = ltb-true d 32 e in
-    get_d_tabulate 128 _ (4 * d + j) 0 (omega arith) ∙ ap (λ (a : ℕ). get_or memory a 0) (omega arith))
-    (λ e.
-    let h : 32 ≤ d = ltb-false d 32 e in
-    get_d_past 128 _ (4 * d + j) 0 (omega arith) ∙ sym (get_or-eq_default memory 0 (omega arith)))
+own_words_at c c< memory size d j j< = grind (arith, get_d_tabulate, get_d_past, get_or-eq_default)
 
 pub own_words_first : (c : ℕ) → c < 128 → (memory : List ℕ) → length memory ≡ 16384 → (d : ℕ) →
     word_at (own_words c memory) (4 * d) ≡ word_at memory (place_of d c)

@@ -72,9 +72,7 @@ gates_in_lem f kept w gates h =
 timeout_in : (gates : List Gate) → ((g : ℕ) → GateInRange (gate_at gates g)) → (k w : ℕ) →
     (g : ℕ) → GateInRange (gate_at (set gates k (with_timeout (kept (Timeout k) w) (gate_at gates k))) g)
 unfolding gate_at
-timeout_in gates h k w =
-    all_set gate0 (λ i. GateInRange) (λ i. gate0_in) gates k _
-    (record { timer = (h k).timer; timeout = kept_lt (Timeout k) w }) h
+timeout_in gates h k w = grind (arith, common_steps, kept_lt)
 
 -- what holds of every counter, and of one at power-up, holds after all are cleared, have ticked, or one is patched
 module _ (P : Counter → Type 0) (p0 : P counter0) where
@@ -134,12 +132,7 @@ stored_reload w cm h = registers_in cm h _ _ _ _ h.control h.key h.enable (kept_
 
 pub reload_in : (w : ℕ) (cm : Common) → CommonInRange cm → CommonInRange (reload_write w cm)
 unfolding reload_write reload_answer
-reload_in w cm h =
-    pick_elim CommonInRange (is_done (pick (triggers w cm) (request_answer cm.queue (dataset_in w)) _))
-    (λ e.
-    stored_reload w _
-    (pick_elim CommonInRange (triggers w cm) (λ t. requested_in w cm h (rw t at e)) (λ t. h)))
-    (λ e. h)
+reload_in w cm h = grind (arith, stored_reload, requested_in)
 
 pub control_in : (w : ℕ) (cm : Common) → CommonInRange cm → CommonInRange (control_write w cm)
 unfolding control_write
@@ -175,16 +168,7 @@ reset_in_lem b w h = let z : 0 ≤ watchdog_top = omega arith in both (λ (x : W
 
 rest_in : (r : Setting) (w : ℕ) (rest : Rest) → RestInRange rest → RestInRange (rest_write r w rest)
 unfolding rest_write reset_watchdogs reset_in
-rest_in (Mask k) w rest h =
-    assumption (all_set 0 (λ i n. n < 2 ^ used_bits (Other (Mask i))) (λ i. lit< tt) rest.masks k _ (kept_lt (Other (Mask k)) w) h.masks)
-rest_in WatchdogTimeout w rest h = assumption (kept_lt (Other WatchdogTimeout) w)
-rest_in (WatchdogReset k) w rest h =
-    assumption
-    (watchdogs_in (reset_in k w) (λ i x p. both (λ (y : Watchdog). y.value ≤ watchdog_top) (eqb (i / 16) k) (reset_in_lem (bit w (i % 16)) x p) p) rest.watchdogs h.watchdogs)
-rest_in (Selection j) w rest h =
-    assumption
-    (all_set 0 (λ i n. n < 2 ^ used_bits (Other (Selection i))) (λ i. pow_pos (used_bits (Other (Selection i)))) rest.selections j _
-    (kept_lt (Other (Selection j)) w) h.selections)
+rest_in r w rest h = grind (arith, common_steps, kept_lt, watchdogs_in, reset_in_lem)
 
 -- ---- calls: one law for each change of the machine
 
@@ -275,10 +259,7 @@ rawcounts_in rises rawcounts h =
 rest_tick_in : (rest : Rest) (cm : Common) → RestInRange rest → CommonInRange cm → (rawcounts : List ℕ) → ((i : ℕ) → raw_at rawcounts i < 2 ^ 32) →
     (rises gates : ℕ) → gates < 2 ^ 12 → RestInRange (rest_tick rest rawcounts rises gates cm.loader)
 unfolding rest_tick step_watchdogs
-rest_tick_in rest cm h k rawcounts r rises gates g =
-    assumption
-    (watchdogs_in (λ i. watchdog_step rest.timeout (bit rises i)) (λ i w. watchdog_in rest.timeout (bit rises i) w) rest.watchdogs h.watchdogs,
-    handled_in cm.loader rest.events.handled k.loader h.events.handled)
+rest_tick_in rest cm h k rawcounts r rises gates g = grind (arith, watchdogs_in, watchdog_in)
 
 reached_tick : (m : Machine) → Reached m → (inputs gates : ℕ) → bad_levels inputs gates ≡ false → Reached (with_state m (tick_of m.state m.memory inputs gates))
 unfolding tick_of
@@ -337,13 +318,7 @@ replaced_in memory d words size n d< p q a = grind (arith, common_steps)
 
 reached_download : (m : Machine) → Reached m → (d : ℕ) (words : List ℕ) → ((i : ℕ) → get_or words i 0 < 2 ^ 16) → Reached (called m (download d words))
 unfolding called
-reached_download m h d words q =
-    pick_elim Reached (is_done (download_answer d (length words)))
-    (λ e.
-    let a = accepted d (length words) e in
-    reached_memory m h _ (length_replaced m.memory d words h.memory e)
-    (replaced_in m.memory d words h.memory a.0 a.1 h.words q))
-    (λ e. h)
+reached_download m h d words q = grind (arith, accepted, length_replaced, replaced_in)
 
 -- ---- lists
 

@@ -147,17 +147,11 @@ reset_back b w = both (λ (x : Watchdog). x.reset ≡ b) (w.reset && not b) refl
 reset_at : (k w : ℕ) (xs : List Watchdog) (b : ℕ) → b < 16 → 16 * k + b < 54 →
     (watchdog_at (reset_watchdogs k w xs) (16 * k + b)).reset ≡ bit w b
 unfolding reset_watchdogs watchdog_at reset_in
-reset_at k w xs b h l =
-    let q : (16 * k + b) / 16 ≡ k = omega arith in
-    let p : (16 * k + b) % 16 ≡ b = omega arith in
-    ap reset_of (get_or_each 54 watchdog0 (reset_in k w) xs (16 * k + b) l)
-    ∙ rw (eq-eqb ((16 * k + b) / 16) k q, p) (reset_back (bit w b) (get_or xs (16 * k + b) watchdog0))
+reset_at k w xs b h l = grind (arith, get_or_each, reset_back)
 
 reset_past : (k w : ℕ) (xs : List Watchdog) (i : ℕ) → 54 ≤ i → (watchdog_at (reset_watchdogs k w xs) i).reset ≡ false
 unfolding reset_watchdogs watchdog_at
-reset_past k w xs i h =
-    ap reset_of
-    (get_or-eq_default (each 54 watchdog0 (reset_in k w) xs) watchdog0 (omega (arith, length_each 54 watchdog0 (reset_in k w) xs)))
+reset_past k w xs i h = grind (arith, get_or-eq_default, length_each)
 
 low_past : (n w i : ℕ) → n ≤ i → bit (w % 2 ^ n) i ≡ false
 low_past n w i h =
@@ -234,14 +228,7 @@ set_at P xs i a d h p q j = grind (arith, common_steps)
 -- every element steps: P holds of what it becomes, and of what stands past the end
 each_at : {A : Type 0} (P : ℕ → A → Type 0) (n : ℕ) (d : A) (g : ℕ → A → A) (xs : List A) → length xs ≡ n →
     ((i : ℕ) → P i (g i (get_or xs i d))) → ((i : ℕ) → P i (get_or xs i d)) → (i : ℕ) → P i (get_or (each n d g xs) i d)
-each_at P n d g xs size p q i =
-    cases (ltb i n)
-    (λ e. rw (get_or_each n d g xs i (ltb-true i n e)) (p i))
-    (λ e.
-    let h : n ≤ i = ltb-false i n e in
-    let past : get_or xs i d ≡ get_or (each n d g xs) i d =
-    get_or-eq_default xs d (omega arith) ∙ sym (get_or-eq_default (each n d g xs) d (omega (arith, length_each n d g xs))) in
-    subst (P i) past (q i))
+each_at P n d g xs size p q i = grind (arith, get_or_each, get_or-eq_default, length_each)
 
 record CommonApart (r : Register) (x y : Common) : Type 0 where
   control : (r ≡ Control → ⊥) → x.control ≡ y.control
@@ -535,11 +522,7 @@ read_gap l a w b e =
 
 gap_read : (m k : Machine) → length m.memory ≡ 16384 → length k.memory ≡ 16384 → (b : ℕ) → decode_of b ≡ Nothing → read_of m b ≡ read_of k b
 unfolding word_in
-gap_read m k p q b e =
-    read m p b
-    ∙ ap (λ (r : Register). with_word (answer_for r) (word_in m r)) e
-    ∙ sym (ap (λ (r : Register). with_word (answer_for r) (word_in k r)) e)
-    ∙ sym (read k q b)
+gap_read m k p q b e = grind (arith, read)
 
 pub read_other : (l : List Call) (a w b : ℕ) → (a ≡ b → ⊥) → follows (decode_of a) (decode_of b) ≡ false →
     read_of (step (after l) (write a w)) b ≡ read_of (after l) b

@@ -6,6 +6,7 @@ use mathlib.Core.List.{List, [], ◌∷◌, ◌++◌}
 use mathlib.Core.Path.{◌≡◌, sym, ap, subst, ◌∙◌}
 use borrow.Author.Tests.{eq-eqb}
 use lib.ListN.{length}
+use native.Mathlib.Omega.{arith}
 use Rattle.std.proofs.Common.{Ok, Result, Some}
 use Rattle.words.specs.Word.{bit}
 use Rattle.loader.specs.declared.loader.Request.{Request}
@@ -77,21 +78,13 @@ module _ (l : List Act) (n : Machine) (h : Rehearsed l n) where
   finishes_from : (x : Call) (q : Request) → request_made n x ≡ Some q →
       (more : List Call) → 128 + 129 * (n.state.common.queue.waiting + 1) ≤ accepted_ticks more →
       stand_after (step n x) more (waits n.state.common.queue.waiting) ≡ finished
-  finishes_from x q =
-      subst
-      (λ (k : Machine). request_made k x ≡ Some q → (more : List Call) → 128 + 129 * (k.state.common.queue.waiting + 1) ≤ accepted_ticks more →
-      stand_after (step k x) more (waits k.state.common.queue.waiting) ≡ finished)
-      (sym (rehearsed l n h)) (finishes (list_of l) x q)
+  finishes_from x q = grind (arith, rehearsed, finishes)
 
   -- a request that a call made, and whatever is done after it
   pub code_finishes : (x : Call) (q : Request) → request_made n x ≡ Some q → (a : Answer) (k : Machine) → Returned n x a k →
       (more : List Act) → 128 + 129 * (n.state.common.queue.waiting + 1) ≤ accepted_ticks (list_from k more) →
       stand_after k (list_from k more) (waits n.state.common.queue.waiting) ≡ finished
-  code_finishes x q made a k back more =
-      subst
-      (λ (k : Machine). 128 + 129 * (n.state.common.queue.waiting + 1) ≤ accepted_ticks (list_from k more) →
-      stand_after k (list_from k more) (waits n.state.common.queue.waiting) ≡ finished)
-      (sym back.1) (finishes_from x q made (list_from (step n x) more))
+  code_finishes x q made a k back more = grind (arith, finishes_from)
 
   -- what a read after the list returns
   pub code_read : (a : ℕ) (q : Result ℕ Refusal) → Looked n a q → q ≡ read_of (after (list_of l)) a
@@ -108,28 +101,18 @@ module _ (l : List Act) (n : Machine) (h : Rehearsed l n) where
   -- and the words that it read make an output 0 where its level is 0
   pub code_scan_ends : (q : Result (List OutputScan) Refusal) → Scanned n q → (o : ℕ) → o < 6 → (scan_at q o).level ≡ false →
       trips n.state o (scan_at q o).words ≡ true
-  code_scan_ends q scan o b =
-      let whole : is_whole n.memory ≡ true = ap (λ (k : Machine). is_whole k.memory) (rehearsed l n h) ∙ eq-eqb _ _ (full_after (list_of l)) in
-      subst (λ (r : Result (List OutputScan) Refusal). (scan_at r o).level ≡ false → trips n.state o (scan_at r o).words ≡ true) (sym scan) (scan_ends n o b whole)
+  code_scan_ends q scan o b = grind (arith, rehearsed, full_after, scan_ends)
 
   -- a write that `write` accepted, and a read after it
   pub code_read_back : (a w : ℕ) (answered : Answer) (k : Machine) → Returned n (write a w) answered k → answered ≡ Ok tt →
       (q : Result ℕ Refusal) → Looked k a q → q ≡ Ok (kept (decode_of a) w)
-  code_read_back a w answered k back e q look =
-      look
-      ∙ ap (λ (k : Machine). read_of k a) back.1
-      ∙ subst (λ (k : Machine). answer k (write a w) ≡ Ok tt → read_of (step k (write a w)) a ≡ Ok (kept (decode_of a) w))
-      (sym (rehearsed l n h)) (read_back (list_of l) a w) (sym back.0 ∙ e)
+  code_read_back a w answered k back e q look = grind (arith, rehearsed, read_back)
 
   -- two reads of another register, before a write and after it
   pub code_read_other : (a w b : ℕ) → (decode_of a ≡ decode_of b → ⊥) → follows (decode_of a) (decode_of b) ≡ false →
       (p : Result ℕ Refusal) → Looked n b p → (answered : Answer) (k : Machine) → Returned n (write a w) answered k →
       (q : Result ℕ Refusal) → Looked k b q → q ≡ p
-  code_read_other a w b d f p before answered k back q look =
-      look
-      ∙ ap (λ (k : Machine). read_of k b) back.1
-      ∙ subst (λ (k : Machine). read_of (step k (write a w)) b ≡ read_of k b) (sym (rehearsed l n h)) (read_other (list_of l) a w b (λ e. d (ap decode_of e)) f)
-      ∙ sym before
+  code_read_other a w b d f p before answered k back q look = grind (arith, rehearsed, read_other)
 
 -- two rehearsals with the same own part for c: c shows the same
 pub code_alike : (c : ℕ) → c < 128 → (l m : List Act) (n k : Machine) → Rehearsed l n → Rehearsed m k →
@@ -140,8 +123,7 @@ code_alike c b l m n k h g e =
 -- two rehearsals that are beginnings of two lists, with the same own part for c so far: c shows the same
 pub code_alike_cut : (c : ℕ) → c < 128 → (l m : List Act) (l₂ m₂ : List Call) (n k : Machine) → Rehearsed l n → Rehearsed m k →
     own_part (own_lines c (list_of l ++ l₂)) c (list_of l) ≡ own_part (own_lines c (list_of m ++ m₂)) c (list_of m) → shows c n ≡ shows c k
-code_alike_cut c b l m l₂ m₂ n k h g e =
-    ap (shows c) (rehearsed l n h) ∙ alike_cut c b (list_of l) l₂ (list_of m) m₂ e ∙ sym (ap (shows c) (rehearsed m k g))
+code_alike_cut c b l m l₂ m₂ n k h g e = grind (arith, rehearsed, alike_cut)
 
 -- a refused call leaves what the table says, for every crate and memory
 pub code_refused : (m : Machine) (x : Call) (a : Answer) (n : Machine) → Returned m x a n → is_done a ≡ false → n ≡ left_by_refusal m x

@@ -32,10 +32,7 @@ module _ (m : Machine) (o : ℕ) (h : o < output_count) where
 
   pub scan_level : (scan_at (scan_of m) o).level ≡ bit (word_shown (read_of m 0x0719)) o
   unfolding read_of word_in status_word interlocks decode_of status_map
-  scan_level =
-      cases (is_whole m.memory)
-      (λ e. ap (λ (x : OutputScan). x.level) (made e) ∙ rw (e, bit_pack output_count (interlock m.state) o h))
-      (λ e. ap (λ (x : OutputScan). x.level) (refused e) ∙ rw (e, bit_zero o))
+  scan_level = grind (arith, made, bit_pack, refused, bit_zero)
 
   pub scan_least : (w : ℕ) → w < (scan_at (scan_of m) o).words → trips m.state o w ≡ false
   unfolding words_read
@@ -46,19 +43,10 @@ module _ (m : Machine) (o : ℕ) (h : o < output_count) where
 
   ends : trips m.state o output_words ≡ true → trips m.state o (words_read m.state o) ≡ true
   unfolding words_read
-  ends t =
-      let n = least output_words (trips m.state o) in
-      cases (ltb n output_words)
-      (λ e. least_at output_words (trips m.state o) (ltb-true n output_words e))
-      (λ e.
-      let all : n ≡ output_words = omega (arith, ltb-false n output_words e, least_within output_words (trips m.state o)) in
-      ap (trips m.state o) all ∙ t)
+  ends t = grind (arith, least_at, least_within)
 
   pub scan_ends : is_whole m.memory ≡ true → (scan_at (scan_of m) o).level ≡ false → trips m.state o (scan_at (scan_of m) o).words ≡ true
   scan_ends e low = rw (made e) (ends (not-false (trips m.state o output_words) (rw (made e) at low)))
 
   pub scan_whole : (scan_at (scan_of m) o).level ≡ true → (scan_at (scan_of m) o).words ≡ output_words
-  scan_whole high =
-      cases (is_whole m.memory)
-      (λ e. rw (made e) (words_all m.state o (not-true (trips m.state o output_words) (rw (made e) at high))))
-      (λ e. absurd (false≢true (rw (refused e) at high)))
+  scan_whole high = grind (arith, made, words_all, refused)

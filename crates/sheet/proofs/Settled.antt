@@ -61,9 +61,7 @@ gates_same f w gates size same =
 -- register bits that the gates have
 bits_same : (f : Bool → Gate → Gate) (read : Gate → Bool) → ((g : Gate) → f (read g) g ≡ g) → (w : ℕ) (gates : List Gate) → length gates ≡ 12 →
     eqb w (gate_bits read gates) ≡ true → each_gate f w gates ≡ gates
-bits_same f read law w gates size e =
-    gates_same f w gates size
-    (λ g h. ap (λ (b : Bool). f b (gate_at gates g)) (rw (eqb-true w (gate_bits read gates) e) (gate_bit read gates g h)) ∙ law (gate_at gates g))
+bits_same f read law w gates size e = grind (arith, gates_same, gate_bit)
 
 -- a test that holds of every index holds of each
 every_each : (n : ℕ) (f : ℕ → Bool) → every n f ≡ true → (i : ℕ) → i < n → f i ≡ true

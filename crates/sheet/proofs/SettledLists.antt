@@ -6,6 +6,7 @@ use mathlib.Core.List.{List, [], ◌∷◌, ◌++◌}
 use mathlib.Core.Logic.{◌↔◌}
 use mathlib.Core.Path.{◌≡◌, refl, sym, ap, ◌∙◌}
 use borrow.Author.Tests.{eqb-true}
+use Rattle.std.proofs.Common.{rules}
 use Rattle.std.proofs.Common.{Option, Some, None}
 use Rattle.bools.proofs.Tests.{cases}
 use Rattle.device.specs.declared.map.Register.TheVariants.{Input}
@@ -90,8 +91,7 @@ parts_lines (p ∷ parts) = join (part_lines p) (parts_lines parts)
 
 lines_added : (o : Option Part) (parts : List Part) → parts_lines (added o parts) ≡ join (lines_by o) (parts_lines parts)
 unfolding added parts_lines join
-lines_added None parts = refl
-lines_added (Some p) parts = refl
+lines_added o parts = search rules
 
 -- the own lines can be read off the own part, whatever set it was taken with
 lines_parts : (S : Lines) (c : ℕ) (l : List Call) → parts_lines (own_part S c l) ≡ own_lines c l
@@ -162,10 +162,7 @@ lines_alike S T c l m e =
 -- so the own lines of the one list are enough to compare both
 pub settled_by_one : (c : ℕ) (l m : List Call) →
     (settled_part_of c l ≡ settled c (own_part (own_lines c l) c m)) ↔ (settled_part_of c l ≡ settled_part_of c m)
-settled_by_one c l m = (
-  λ e. e ∙ ap (λ (S : Lines). settled c (own_part S c m)) (lines_alike (own_lines c l) (own_lines c l) c l m e),
-  λ e. e ∙ ap (λ (S : Lines). settled c (own_part S c m)) (sym (lines_alike (own_lines c l) (own_lines c m) c l m e)),
-)
+settled_by_one c l m = grind (arith, lines_alike)
 
 -- ---- wherever the one list is cut
 

@@ -73,25 +73,12 @@ module _ (c : ℕ) (c< : c < 128) where
   loaded_own : (memory : List ℕ) → length memory ≡ 16384 → (d : ℕ) (x : Counter) →
       loaded memory (place_of d c) x ≡ loaded (own_words c memory) (4 * d) x
   unfolding loaded
-  loaded_own memory size d x =
-      rw (
-        own_words_first c c< memory size d,
-        own_words_at c c< memory size d 1 (omega arith),
-        own_words_at c c< memory size d 2 (omega arith),
-        own_words_at c c< memory size d 3 (omega arith),
-      )
+  loaded_own memory size d x = grind (arith, own_words_first, own_words_at)
 
   load : (l : Option Reloading) (groups memory : List ℕ) (xs : List Counter) → length xs ≡ 128 → length memory ≡ 16384 →
       counter_at (load_into l groups memory xs) c ≡ sheet_load c l (group_at groups c) (own_words c memory) (counter_at xs c)
   unfolding load_into sheet_load counter_at
-  load None groups memory xs p q = refl
-  load (Some l) groups memory xs p q =
-      pick_ap (λ (x : List Counter). get_or x c counter0) (takes l (group_at groups l.next)) _ xs
-      ∙ rw (get_d_set xs l.next _ c counter0 (omega arith))
-      (cases (eqb c l.next)
-      (λ e.
-      rw (e, ← (eqb-true c l.next e), loaded_own memory q l.request.dataset (get_or xs c counter0)))
-      (λ e. rw e (pick_same (takes l (group_at groups l.next)) (get_or xs c counter0))))
+  load l groups memory xs p q = grind (arith, get_d_set, loaded_own)
 
 module _ (S : Lines) (c : ℕ) (c< : c < 128) (m : Machine) (size : Sized m) where
   -- ---- tick
@@ -134,27 +121,11 @@ module _ (S : Lines) (c : ℕ) (c< : c < 128) (m : Machine) (size : Sized m) whe
 
   group_square : (k w : ℕ) → sheet_in S c (write_at m (Group k) w) ≡ sheet_step_by c (sheet_in S c m) (own_at S c (Group k) w)
   unfolding sheet_in write_at own_at sheet_step group_at kept
-  group_square k w =
-      let law : (v : ℕ) → get_or (set m.state.groups k v) (c / 4) 0 ≡ pick (eqb (c / 4) k) v (get_or m.state.groups (c / 4) 0) =
-      λ v. get_d_set m.state.groups k v (c / 4) 0 (omega (arith, size.groups)) in
-      cases (eqb (c / 4) k)
-      (λ e. rw e (ap (put_group (sheet_in S c m)) (rw (law (w % 65536), e) (nibble_low w (c % 4) (mod-lt c (omega arith))))))
-      (λ e. rw e (ap (put_group (sheet_in S c m)) (rw (law (w % 65536), e))))
+  group_square k w = grind (arith, get_d_set, nibble_low)
 
   word_square : (i w : ℕ) → sheet_in S c (write_at m (Word i) w) ≡ sheet_step_by c (sheet_in S c m) (own_at S c (Word i) w)
   unfolding sheet_in write_at own_at sheet_step own_words word_at kept
-  word_square i w =
-      let law : (k : ℕ) → k < 128 →
-      get_or (set m.memory i (w % 65536)) (own_place c k) 0 ≡ pick (eqb (own_place c k) i) (w % 65536) (get_or m.memory (own_place c k) 0) =
-      λ k h. get_d_set m.memory i (w % 65536) (own_place c k) 0 (omega (arith, size.memory, own_place_below c c< k h)) in
-      cases (is_own_word c i)
-      (λ e.
-      rw e
-      (ap (put_memory (sheet_in S c m))
-      (tabulate_ext 128 _ _ (λ k h. law k h ∙ rw (own_place_is c c< i (eqb-true _ c e) k h)) ∙ sym (set_tabulate 128 _ _ (w % 65536)))))
-      (λ e.
-      rw e
-      (ap (put_memory (sheet_in S c m)) (tabulate_ext 128 _ _ (λ k h. law k h ∙ rw (own_place_not c c< i (eqb-false _ c e) k h)))))
+  word_square i w = grind (arith, get_d_set, own_place_below, tabulate_ext, own_place_is, eqb-true, set_tabulate, own_place_not)
 
   clear_square : counter_at (clear_counters m.state.counters) c ≡ cleared (counter_at m.state.counters c)
   unfolding counter_at clear_counters
@@ -166,52 +137,19 @@ module _ (S : Lines) (c : ℕ) (c< : c < 128) (m : Machine) (size : Sized m) whe
 
   write_square : (r : Register) (w : ℕ) → sheet_in S c (write_at m r w) ≡ sheet_step_by c (sheet_in S c m) (own_at S c r w)
   unfolding sheet_in write_at own_at sheet_step
-  write_square Nothing w = refl
-  write_square (Readout r) w = refl
-  write_square (Other r) w = refl
-  write_square Control w = ap (λ (x : Counter). put_common (put_counter (sheet_in S c m) x) (control_write w m.state.common)) (reset_square w)
-  write_square Mode w = ap (put_gates (sheet_in S c m)) (own_gates_each with_mode refl S.gates w m.state.gates)
-  write_square (Timeout g) w = timeout_square g w
-  write_square Key w = refl
-  write_square Enable w = refl
-  write_square Reload w = refl
-  write_square Prepare w = ap (put_gates (sheet_in S c m)) (own_gates_each with_prepare refl S.gates w m.state.gates)
-  write_square Recover w = ap (put_gates (sheet_in S c m)) (own_gates_each with_recover refl S.gates w m.state.gates)
-  write_square (Input n) w = input_square n w
-  write_square (Group k) w = group_square k w
-  write_square (Word i) w = word_square i w
+  write_square r w = grind (arith, reset_square, own_gates_each, timeout_square, input_square, group_square, word_square)
 
   -- ---- tag
 
   -- what no counter sees may be anything
   command_square : (r : Rest) (t : ℕ) → sheet_in S c (with_state m (commanded (with_rest m.state r) t)) ≡ sheet_command (sheet_in S c m) (own_tag S t)
   unfolding sheet_in commanded sheet_command
-  command_square r t =
-      let F : Crate → Sheet = λ s. sheet_in S c (with_state m s) in
-      let G : List Gate → Sheet = put_gates (sheet_in S c m) in
-      rw (own_tag_command S t)
-      (pick_square F (eqb (command_of t) 1) (λ e. let p : command_of t ≡ 1 = eqb-true _ 1 e in rw (own_tag_whole S t (rw p refl)) refl)
-      (λ e.
-      pick_square F (eqb (command_of t) 2)
-      (λ f.
-      ap G
-      (own_gates_each with_prepare_pulse refl S.gates t m.state.gates
-      ∙ sym (own_tag_gates S t (rw f refl) with_prepare_pulse (own_gates S.gates m.state.gates))))
-      (λ f.
-      pick_square F (eqb (command_of t) 3)
-      (λ g.
-      ap G
-      (own_gates_each with_recover_pulse refl S.gates t m.state.gates
-      ∙ sym (own_tag_gates S t (rw (f, g) refl) with_recover_pulse (own_gates S.gates m.state.gates))))
-      (λ g. pick_square F (eqb (command_of t) 4) (λ h. ap (put_counter (sheet_in S c m)) clear_square) (λ h. refl)))))
+  command_square r t = grind (arith, own_tag_command, own_tag_whole, own_gates_each, own_tag_gates, clear_square)
 
   -- what a tag leaves in 0x0900 to 0x0902 is in no sheet
   tag_square : (t : ℕ) → sheet_in S c (with_state m (tag_of m.state t)) ≡ sheet_tag (sheet_in S c m) (own_tag S t)
   unfolding sheet_in tag_of sheet_tag
-  tag_square t =
-      let F : Crate → Sheet = λ s. sheet_in S c (with_state m s) in
-      rw (own_tag_key S t)
-      (pick_square F (events_on m.state.common) (λ e. pick_square F (right_key m.state.common t) (λ k. command_square _ t) (λ k. refl)) (λ e. refl))
+  tag_square t = grind (arith, own_tag_key, command_square)
 
   -- ---- download
 
@@ -225,30 +163,16 @@ module _ (S : Lines) (c : ℕ) (c< : c < 128) (m : Machine) (size : Sized m) whe
   download_words : (d : ℕ) (words : List ℕ) → length words ≡ 512 → d < 32 →
       own_words c (replaced m.memory (512 * d) words) ≡ put_four (own_words c m.memory) d (four_of c words)
   unfolding own_words four_of own_place
-  download_words d words p q =
-      tabulate_ext 128 _ _ (λ k h.
-      rw (eq-eqb (length words) 512 p, get_d_tabulate 4 (λ j. get_or words (4 * c + j) 0) (k % 4) 0 (mod-lt k (omega arith)), get_d_tabulate)
-      (replaced_at d words p q (k / 4) (k % 4) (omega arith) (mod-lt k (omega arith))))
+  download_words d words p q = grind (arith, tabulate_ext, get_d_tabulate, replaced_at)
 
   download_square : (d : ℕ) (words : List ℕ) →
       sheet_in S c (called m (download d words)) ≡ sheet_step_by c (sheet_in S c m) (own S c (download d words))
   unfolding sheet_in called own sheet_step
-  download_square d words =
-      cases (is_done (download_answer d (length words)))
-      (λ e.
-      let a = accepted d (length words) e in
-      rw e (ap (put_memory (sheet_in S c m)) (download_words d words a.0 a.1)))
-      (λ e. rw e refl)
+  download_square d words = grind (arith, accepted, download_words)
 
   -- ---- every call
 
   pub square : (x : Call) → Fits S (counter_at m.state.counters c).input →
       sheet_in S c (step m x) ≡ sheet_step_by c (sheet_in S c m) (own S c x)
   unfolding called own sheet_step
-  square (tick inputs gates) fit =
-      ap (sheet_in S c) (step_called m size.memory (tick inputs gates))
-      ∙ pick_ap (sheet_in S c) (bad_levels inputs gates) m (with_state m (tick_of m.state m.memory inputs gates))
-      ∙ ap (pick (bad_levels inputs gates) (sheet_in S c m)) (tick_square inputs gates fit)
-  square (write a w) fit = ap (sheet_in S c) (step_called m size.memory (write a w)) ∙ write_square (decode_of a) w
-  square (tag t) fit = ap (sheet_in S c) (step_called m size.memory (tag t)) ∙ tag_square t
-  square (download d words) fit = ap (sheet_in S c) (step_called m size.memory (download d words)) ∙ download_square d words
+  square x fit = grind (arith, step_called, tick_square, write_square, tag_square, download_square)
