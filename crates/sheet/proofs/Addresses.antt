@@ -13,7 +13,7 @@ use Rattle.device.specs.declared.map.Setting.TheVariants.{Mask, WatchdogTimeout,
 use Rattle.device.specs.declared.map.Status.{Status}
 use Rattle.device.specs.declared.map.Status.TheVariants.{Module, Negative, Positive, GateErrors, WatchdogErrors, GateInputs, GateOutputs, Outputs}
 use Rattle.device.specs.declared.map.Status.TheVariants.{GateStates, TagLow, TagHigh, Code, LoaderState, LoaderCounter, Count, Raw, Threshold}
-use Rattle.device.specs.Map.{backplane_map, below, control_map, counter_map, decode_of, event_map, output_block, status_map}
+use Rattle.device.specs.Map.{backplane_map, below, control_map, counter_map, decode_of, event_map, status_map}
 
 -- ---- the map from the registers' side
 
@@ -101,18 +101,8 @@ event_placed : (a : ℕ) → 0x0900 ≤ a → Placed a (event_map a)
 unfolding event_map
 event_placed a g = grind arith
 
--- word r of output q is word 22 × q + r of all outputs
-selection_place : (q r : ℕ) → r < 22 → 32 * ((22 * q + r) / 22) + (22 * q + r) % 22 ≡ 32 * q + r
-selection_place q r h = omega arith
-
 raster : (k : ℕ) → 32 * (k / 32) + k % 32 ≡ k
 raster k = omega arith
-
-block_in : (k : ℕ) → k < 192 → k % 32 < 22 → 22 * (k / 32) + k % 32 < 132
-block_in k l h = omega arith
-
-output_placed : (a : ℕ) → 0x1100 ≤ a → a < 0x11C0 → Placed a (output_block (a - 0x1100))
-output_placed a g l = grind arith
 
 counter_placed : (a : ℕ) → 0x1000 ≤ a → Placed a (counter_map a)
 unfolding counter_map

@@ -1,10 +1,7 @@
 -- What holds after each thing that a call may do holds after the call, in the crate and in the sheet.
 use Prim.Native.Nat.{ℕ}
-use mathlib.Core.Bool.{Bool, true, false}
 use mathlib.Core.List.{List, [], ◌∷◌}
-use mathlib.Core.Path.{◌≡◌, refl}
 use lib.Dec.{eqb}
-use Rattle.bools.specs.Pick.{pick}
 use Rattle.bools.proofs.Tests.{both}
 use Rattle.counters.specs.Counter.{clear_counters, cleared}
 use Rattle.gates.specs.Gate.{each_gate, with_prepare_pulse, with_recover_pulse}
@@ -13,11 +10,6 @@ use Rattle.device.specs.State.{Machine, with_common, with_counters, with_gates}
 use Rattle.registers.specs.Calls.{Call, from, step}
 use Rattle.tagging.specs.Tag.{command_of, commanded, events_on, noted_in, right_key, tag_of, tag_request}
 use Rattle.sheet.specs.Sheet.{Sheet, put_common, put_counter, put_gates, sheet_command, sheet_tag}
-
--- a choice goes into a choice, each branch with its test in hand
-pub pick_square : {A B : Type 0} (f : A → B) (b : Bool) {x y : A} {u v : B} → (b ≡ true → f x ≡ u) → (b ≡ false → f y ≡ v) → f (pick b x y) ≡ pick b u v
-pick_square f true p q = p refl
-pick_square f false p q = q refl
 
 -- what each call keeps a list keeps
 pub list_keeps : (P : Machine → Type 0) → ((m : Machine) → P m → (x : Call) → P (step m x)) → (m : Machine) → P m → (l : List Call) → P (from m l)

@@ -8,7 +8,7 @@ use lib.Dec.{lit<}
 use lib.ListN.{get_or, replicate}
 use Rattle.registers.specs.Calls.{Call, tick, write, download, after}
 use Rattle.sheet.specs.Lines.{Holds, own_lines}
-use Rattle.sheet.specs.OwnPart.{Cut, Part, ticked, patched, own_part}
+use Rattle.sheet.specs.OwnPart.{Cut, ticked, patched, own_part}
 use Rattle.sheet.specs.Reachable.{OfWords, Reached}
 use Rattle.sheet.specs.Settled.{SettledCut}
 use Rattle.sheet.proofs.Computing.{computing}

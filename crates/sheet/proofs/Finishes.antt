@@ -5,14 +5,13 @@ use native.Mathlib.Omega.{arith}
 use mathlib.Core.Bool.{Bool, true, false, ◌&&◌}
 use mathlib.Core.List.{List, [], ◌∷◌}
 use mathlib.Core.Path.{◌≡◌, refl, ap, ◌∙◌}
-use borrow.Author.Tests.{eqb-true, eqb-false, ltb-true, ltb-false, lt-ltb, le-ltb, ne_eqb}
-use lib.Dec.{eqb, ltb}
+use borrow.Author.Tests.{eqb-true, eqb-false, lt-ltb, ne_eqb}
+use lib.Dec.{eqb}
 use lib.ListN.{get_or, length}
 use lib.Seq.{get_or-set_same, get_or-set_other}
 use Rattle.std.proofs.lemmas.Grind.{common_steps}
 use Rattle.std.proofs.lemmas.Bool.Decides.{nat_tests}
 use Rattle.std.proofs.Common.{Option, Some, None}
-use Rattle.bools.specs.Pick.{pick}
 use Rattle.bools.proofs.Tests.{both, cases}
 use Rattle.std.proofs.lemmas.Bool.{and_parts}
 use Rattle.lists.proofs.Tables.{get_d_tabulate, length_tabulate}
@@ -21,12 +20,11 @@ use Rattle.loader.specs.declared.loader.Reload.{Reload as Reloading}
 use Rattle.loader.specs.declared.loader.Request.{Request}
 use Rattle.loader.specs.Loader.{dropped, is_empty, loader_step, oldest, pushed, queue_step, request0, request_for, shifted}
 use Rattle.device.specs.declared.map.Register.{Register}
-use Rattle.device.specs.declared.map.Register.TheVariants.{Nothing, Readout, Other, Control, Mode, Timeout, Key, Enable, Reload, Prepare, Recover, Input, Group, Word}
+use Rattle.device.specs.declared.map.Register.TheVariants.{Control, Key, Enable, Reload}
 use Rattle.device.specs.declared.state.Common.{Common}
-use Rattle.device.specs.declared.state.Crate.{Crate}
 use Rattle.device.specs.Answer.{is_done}
 use Rattle.registers.specs.Calls.{Call, tick, write, tag, download, accepted_ticks, after, called, download_answer, from, machine0, step, tick_one}
-use Rattle.device.specs.Map.{decode_of, event_map, kept}
+use Rattle.device.specs.Map.{decode_of, kept}
 use Rattle.device.specs.State.{Machine, memory0, power_up, with_state}
 use Rattle.tagging.specs.Tag.{command_of, commanded, events_on, right_key, tag_of, tag_request}
 use Rattle.ticking.specs.Tick.{common_tick, tick_of}

@@ -1,21 +1,18 @@
 -- Each step of the core stays in the ranges: counters, gates, watchdogs, phases, queue and loader.
-use Prim.Native.Nat.{ℕ, zero, suc, ◌+◌, ◌*◌, ◌^◌, ◌≤◌, ◌<◌}
+use Prim.Native.Nat.{ℕ, ◌+◌, ◌^◌, ◌≤◌, ◌<◌}
 use native.Mathlib.Omega.{arith}
-use mathlib.Core.Bool.{Bool, true, false, false≢true}
+use mathlib.Core.Bool.{Bool, true}
 use mathlib.Core.List.{List}
-use mathlib.Core.Path.{◌≡◌, ◌∙◌}
-use borrow.Author.Tests.{leb-true, leb-false, ltb-true, ltb-false}
-use lib.Dec.{leb, ltb, lit<}
-use lib.IntN.{ℤ, pos, ◌+ℤ◌, ◌-ℤ◌}
-use lib.ListN.{get_or, length-set}
+use mathlib.Core.Path.{◌≡◌}
+use lib.Dec.{lit<}
+use lib.IntN.{ℤ, pos}
+use lib.ListN.{get_or}
 use lib.Signed.{mag}
 use Rattle.std.proofs.lemmas.Grind.{common_steps}
 use Rattle.std.proofs.lemmas.Bool.Decides.{nat_tests}
 use Rattle.std.proofs.Common.{Option, Some, None}
-use Rattle.numbers.specs.Signed.{joined}
-use Rattle.numbers.proofs.Complement.{signed_lt, wrapped_lt}
-use Rattle.bools.proofs.Tests.{both, cases, pick_elim}
-use Rattle.lists.proofs.All.{all_each, all_set, all_tabulate}
+use Rattle.bools.proofs.Tests.{both}
+use Rattle.lists.proofs.All.{all_each, all_tabulate}
 use Rattle.lists.proofs.Tables.{length_tabulate}
 use Rattle.counters.specs.declared.counter.Counter.{Counter}
 use Rattle.gates.specs.declared.gate.Gate.{Gate}
@@ -23,14 +20,13 @@ use Rattle.loader.specs.declared.loader.Reload.{Reload}
 use Rattle.loader.specs.declared.loader.Queue.{Queue}
 use Rattle.loader.specs.declared.loader.Request.{Request}
 use Rattle.watchdogs.specs.declared.watchdog.Watchdog.{Watchdog}
-use Rattle.counters.specs.Counter.{cleared, counted, counter0, counter_at, counter_step, counter_tick, with_count, with_input}
-use Rattle.gates.specs.Gate.{gate_step, in_prepare, next_state, timeout_unit, timer_of}
-use Rattle.lines.specs.Lines.{frequency, phase_limit, phase_step, phase_sum, step_phases}
-use Rattle.loader.specs.Loader.{dropped, group_at, takes, is_beyond, is_empty, is_full, load_into, loader_step, oldest, pushed, queue_step, request0, shifted}
+use Rattle.counters.specs.Counter.{cleared, counter0, counter_at, counter_step, counter_tick, with_count, with_input}
+use Rattle.gates.specs.Gate.{gate_step}
+use Rattle.lines.specs.Lines.{frequency, phase_limit, phase_step, step_phases}
+use Rattle.loader.specs.Loader.{dropped, is_empty, load_into, loader_step, oldest, pushed, queue_step, request0, shifted}
 use Rattle.loader.specs.Memory.{loaded, word_at}
 use Rattle.watchdogs.specs.Watchdog.{watchdog_step, watchdog_top}
 use Rattle.device.specs.Answer.{is_done}
-use Rattle.ticking.specs.Tick.{last_handled}
 use Rattle.writing.specs.Write.{request_answer}
 use Rattle.sheet.specs.Reachable.{CounterInRange, GateInRange, LoaderInRange, QueueInRange, RequestInRange}
 
@@ -45,9 +41,6 @@ input_in c h w p = record { count = h.count; positive = h.positive; negative = h
 pub cleared_in : (c : Counter) → CounterInRange c → CounterInRange (cleared c)
 cleared_in c h = count_in c h (pos 0) (lit< tt)
 
-counted_in : (z : ℤ) (up down : Bool) → mag z < 2 ^ 31 → mag (counted z up down) < 2 ^ 31
-counted_in z up down h = grind arith
-
 step_in : (c : Counter) (hold clear opened up down : Bool) → CounterInRange c → CounterInRange (counter_step c hold clear opened up down)
 unfolding counter_step
 step_in c hold clear opened up down h = grind arith
@@ -55,9 +48,6 @@ step_in c hold clear opened up down h = grind arith
 pub tick_in : (control rises was is : ℕ) (c : Counter) → CounterInRange c → CounterInRange (counter_tick control rises was is c)
 unfolding counter_tick
 tick_in control rises was is c h = step_in c _ _ _ _ _ h
-
-joined_in : (low high : ℕ) → low < 2 ^ 16 → high < 2 ^ 16 → mag (joined low high) < 2 ^ 31
-joined_in low high l h = signed_lt 32 (high * 65536 + low) (omega arith)
 
 loaded_in : (memory : List ℕ) → ((a : ℕ) → word_at memory a < 2 ^ 16) → (a : ℕ) (c : Counter) → CounterInRange c → CounterInRange (loaded memory a c)
 unfolding loaded
@@ -77,9 +67,6 @@ pub load_in : (l : Option Reload) (groups memory : List ℕ) (xs : List Counter)
 load_in l groups memory xs words = load_all CounterInRange counter0_in l groups memory xs (loaded_in memory words)
 
 -- ---- gates
-
-timer_in : (was is : Bool) (timer timeout : ℕ) → timer ≤ timeout_unit * 65535 → timeout < 2 ^ 16 → timer_of was is timer timeout ≤ timeout_unit * 65535
-timer_in was is timer timeout h t = grind (arith, nat_tests)
 
 pub gate_in_lem : (high : Bool) (g : Gate) → GateInRange g → GateInRange (gate_step high g)
 unfolding gate_step
@@ -131,6 +118,3 @@ queue_in (Some l) q h = h
 pub loader_in : (l : Option Reload) (q : Queue) → LoaderInRange l → QueueInRange q → LoaderInRange (loader_step l q)
 unfolding loader_step oldest
 loader_in l q r h = grind arith
-
-pub handled_in : (l : Option Reload) (n : ℕ) → LoaderInRange l → n < 128 → last_handled l n < 128
-handled_in l n r h = grind arith

@@ -4,14 +4,13 @@ use native.Mathlib.Omega.{arith}
 use mathlib.Core.List.{List, [], ◌∷◌, ◌++◌}
 use mathlib.Core.Path.{◌≡◌, refl, sym, ap, ◌∙◌}
 use Rattle.std.proofs.Common.{Option, Some, None}
-use Rattle.counters.specs.Counter.{counter_at}
 use Rattle.registers.specs.Calls.{Call, after, from, machine0, step}
 use Rattle.device.specs.State.{Machine}
 use Rattle.registers.proofs.Overflows.{over_bit, under_bit}
 use Rattle.sheet.specs.Lines.{Holds, Lines, own_lines}
 use Rattle.sheet.specs.OwnPart.{Cut, Part, added, own, own_part}
 use Rattle.sheet.specs.Sheet.{Sheet, sheet0, sheet_after, sheet_from, sheet_shows}
-use Rattle.sheet.specs.Shows.{shown, shows}
+use Rattle.sheet.specs.Shows.{shows}
 use Rattle.sheet.proofs.Changes.{list_keeps}
 use Rattle.sheet.proofs.Fed.{from_added, sheet_step_by}
 use Rattle.sheet.proofs.Kept.{fits, fits_start, holds_all, holds_both, holds_left, holds_none, holds_right, sized, sized_start}

@@ -1,59 +1,43 @@
 -- What every call keeps: the lengths of the lists, and that S has the lines which c's input register selects.
-use Prim.Native.Nat.{ℕ, ◌/◌, ◌<◌}
+use Prim.Native.Nat.{ℕ}
 use native.Mathlib.Omega.{arith}
-use mathlib.Core.Bool.{Bool, true, false, ◌&&◌, ◌||◌, false≢true, or-true}
+use mathlib.Core.Bool.{Bool}
 use mathlib.Core.List.{List}
-use mathlib.Core.Path.{◌≡◌, refl, ◌∙◌}
-use borrow.Author.Tests.{eq-eqb, eqb-true, lt-ltb, ltb-true}
-use lib.Dec.{eqb, ltb}
+use mathlib.Core.Path.{◌≡◌}
 use lib.ListN.{length, length-set}
 use Rattle.std.proofs.lemmas.Grind.{common_steps}
-use Rattle.std.proofs.lemmas.Bool.Decides.{nat_tests}
 use Rattle.std.proofs.Common.{Option, Some, None}
-use Rattle.bools.proofs.Tests.{both, pick_ap, pick_elim}
-use Rattle.std.proofs.lemmas.Bool.{and_parts}
+use Rattle.bools.proofs.Tests.{both, pick_elim}
 use Rattle.words.proofs.Fields.{field_low}
 use Rattle.lists.proofs.Tables.{length_each, length_tabulate}
 use Rattle.counters.specs.declared.counter.Counter.{Counter}
-use Rattle.gates.specs.declared.gate.Gate.{Gate}
 use Rattle.loader.specs.declared.loader.Reload.{Reload as Reloading}
-use Rattle.counters.specs.Counter.{clear_counters, counter0, counter_step, counter_tick, down_of, gate_of, input0, reset_on, tick_counters, up_of}
-use Rattle.loader.specs.Loader.{group_at, takes, load_into}
+use Rattle.counters.specs.Counter.{clear_counters, counter0, counter_step, counter_tick, input0, reset_on, tick_counters}
+use Rattle.loader.specs.Loader.{load_into}
 use Rattle.loader.specs.Memory.{loaded}
-use Rattle.gates.specs.Gate.{with_mode, with_prepare, with_prepare_pulse, with_recover, with_recover_pulse}
+use Rattle.gates.specs.Gate.{with_prepare_pulse, with_recover_pulse}
 use Rattle.gates.proofs.Gates.{length_each_gate}
 use Rattle.device.specs.declared.map.Register.{Register}
-use Rattle.device.specs.declared.map.Register.TheVariants.{Nothing, Readout, Other, Control, Mode, Timeout, Key, Enable, Reload, Prepare, Recover, Input, Group, Word}
-use Rattle.device.specs.declared.state.Common.{Common}
+use Rattle.device.specs.declared.map.Register.TheVariants.{Input}
 use Rattle.device.specs.declared.state.Crate.{Crate}
-use Rattle.device.specs.declared.state.Rest.{Rest}
 use Rattle.device.specs.Answer.{is_done}
 use Rattle.loader.specs.Memory.{is_whole}
 use Rattle.registers.specs.Calls.{Call, tick, write, tag, download, called, download_answer, machine0, step}
 use Rattle.device.specs.Map.{decode_of, kept}
-use Rattle.device.specs.State.{Machine, memory0, power_up, with_groups, with_memory, with_rest, with_state}
+use Rattle.device.specs.State.{Machine, memory0, power_up, with_memory, with_state}
 use Rattle.tagging.specs.Tag.{tag_of}
 use Rattle.ticking.specs.Tick.{tick_of}
 use Rattle.lines.specs.Lines.{bad_levels}
-use Rattle.writing.specs.Write.{on_common, on_counters, on_gates, reset_by, write_at}
+use Rattle.writing.specs.Write.{reset_by, write_at}
 use Rattle.registers.proofs.Whole.{length_replaced}
 use Rattle.sheet.specs.Lines.{Holds, Lines, join, lines_at, lines_in, lines_of, no_lines}
-use Rattle.sheet.specs.OwnPart.{Part, ticked, patched, stored, controlled, keyed, enabled, reloaded, timed, grouped, moded, prepared, recovered, tagged, downloaded, is_own_word, own, own_at}
-use Rattle.sheet.specs.Sheet.{Sheet, sheet_command, sheet_load, sheet_step, sheet_tag, sheet_tick}
+use Rattle.sheet.specs.OwnPart.{Part, patched, own, own_at}
+use Rattle.sheet.specs.Sheet.{Sheet, sheet_load, sheet_step, sheet_tag, sheet_tick}
 use Rattle.sheet.proofs.Changes.{sheet_tag_by, tag_by}
 use Rattle.sheet.proofs.Fed.{sheet_step_by}
 use Rattle.sheet.proofs.Projection.{Fits, Sized}
 
 -- ---- the lengths are kept: one law for each change of the record, and no field is named again
-
-sized_counters : (m : Machine) → Sized m → (x : List Counter) → length x ≡ 128 → Sized (on_counters m x)
-sized_counters m s x p = assumption
-
-sized_groups : (m : Machine) → Sized m → (x : List ℕ) → length x ≡ 32 → Sized (with_state m (with_groups m.state x))
-sized_groups m s x p = assumption
-
-sized_gates : (m : Machine) → Sized m → (x : List Gate) → length x ≡ 12 → Sized (on_gates m x)
-sized_gates m s x p = assumption
 
 sized_memory : (m : Machine) → Sized m → (x : List ℕ) → length x ≡ 16384 → Sized (with_memory m x)
 sized_memory m s x p = assumption

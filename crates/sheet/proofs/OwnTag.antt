@@ -26,9 +26,6 @@ masked_lt mine w = pack_lt 12 _
 key_of_lem : (t b : ℕ) → b < 4096 → key_of (t / 4096 * 4096 + b) ≡ key_of t
 key_of_lem t b h = omega arith
 
-command_of_lem : (t b : ℕ) → b < 4096 → command_of (t / 4096 * 4096 + b) ≡ command_of t
-command_of_lem t b h = omega arith
-
 abbrev pub for_gates : ℕ → Bool
 for_gates t = eqb (command_of t) 2 || eqb (command_of t) 3
 

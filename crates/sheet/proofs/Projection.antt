@@ -1,12 +1,12 @@
 -- The projection: the sheet of counter c that stands in a machine, for a set S of lines.
-use Prim.Native.Nat.{ℕ, ◌+◌, ◌*◌, ◌≤◌, ◌<◌, ◌/◌, ◌%◌}
+use Prim.Native.Nat.{ℕ, ◌+◌, ◌*◌, ◌<◌, ◌/◌, ◌%◌}
 use native.Mathlib.Nat.{add-zero, mod-lt}
 use native.Mathlib.Omega.{arith}
 use mathlib.Core.Bool.{Bool, true, false, ◌&&◌}
 use mathlib.Core.List.{List}
-use mathlib.Core.Path.{◌≡◌, refl, sym, ap, ◌∙◌}
-use borrow.Author.Tests.{eqb-true, ltb-true, ltb-false}
-use lib.Dec.{eqb, ltb, lit<}
+use mathlib.Core.Path.{◌≡◌, refl, sym, ◌∙◌}
+use borrow.Author.Tests.{eqb-true}
+use lib.Dec.{eqb, lit<}
 use lib.ListN.{length, get_or, set, get_or-eq_default}
 use Rattle.std.proofs.lemmas.Grind.{common_steps}
 use Rattle.bools.specs.Pick.{pick}
@@ -18,7 +18,7 @@ use Rattle.lists.proofs.Tables.{get_d_past, get_d_set, get_d_tabulate, set_tabul
 use Rattle.counters.specs.declared.counter.Counter.{Counter}
 use Rattle.gates.specs.declared.gate.Gate.{Gate}
 use Rattle.counters.specs.Counter.{counter0, counter_at, counter_tick, down_of, gate_of, up_of}
-use Rattle.gates.specs.Gate.{each_gate, gate0, gate_at, output, outputs_of}
+use Rattle.gates.specs.Gate.{each_gate, gate0, gate_at, outputs_of}
 use Rattle.lines.specs.Lines.{rise_of, rises_of}
 use Rattle.loader.specs.Loader.{group_at}
 use Rattle.loader.specs.Memory.{place_of, word_at}

@@ -5,8 +5,7 @@ use native.Mathlib.Omega.{arith}
 use mathlib.Core.Bool.{Bool, true, false}
 use mathlib.Core.List.{List, [], ◌∷◌}
 use mathlib.Core.Path.{◌≡◌, refl, sym, ap, ◌∙◌}
-use borrow.Author.Tests.{eq-eqb, le-ltb, lt-ltb}
-use lib.Dec.{eqb}
+use borrow.Author.Tests.{eq-eqb, lt-ltb}
 use lib.ListN.{length}
 use Rattle.std.proofs.lemmas.Bool.Decides.{nat_tests}
 use Rattle.std.proofs.Common.{Ok}
@@ -18,13 +17,11 @@ use Rattle.lines.specs.Lines.{bad_levels, input_rise, rise_of, rises_of}
 use Rattle.lines.specs.Raw.{count_rises, raw_at, raw_step}
 use Rattle.loader.specs.Memory.{is_whole}
 use Rattle.device.specs.declared.map.Register.{Register}
-use Rattle.device.specs.declared.map.Register.TheVariants.{Nothing, Readout, Other, Control, Mode, Timeout, Key, Enable, Reload, Prepare, Recover, Input, Group, Word}
+use Rattle.device.specs.declared.map.Register.TheVariants.{Readout, Other}
 use Rattle.device.specs.declared.map.Setting.{Setting}
-use Rattle.device.specs.declared.map.Setting.TheVariants.{Mask, WatchdogTimeout, WatchdogReset, Selection}
 use Rattle.device.specs.declared.map.Status.TheVariants.{Raw}
 use Rattle.device.specs.declared.state.Crate.{Crate}
-use Rattle.device.specs.Answer.{is_done}
-use Rattle.registers.specs.Calls.{Call, tick, write, tag, download, after, called, download_answer, from, machine0, step}
+use Rattle.registers.specs.Calls.{Call, tick, write, tag, download, after, called, from, machine0, step}
 use Rattle.device.specs.Map.{counter_map, decode_of}
 use Rattle.reading.specs.Read.{low_first, read_of, status_word, word_in}
 use Rattle.device.specs.State.{Machine, power_up, with_state}

@@ -1,24 +1,21 @@
 -- Every call keeps what `Reached` says, and power-up has it.
-use Prim.Native.Nat.{ℕ, ◌+◌, ◌-◌, ◌*◌, ◌/◌, ◌%◌, ◌^◌, ◌≤◌, ◌<◌}
+use Prim.Native.Nat.{ℕ, ◌+◌, ◌-◌, ◌*◌, ◌^◌, ◌≤◌, ◌<◌}
 use native.Mathlib.Nat.{mod-lt}
 use native.Mathlib.Omega.{arith}
 use mathlib.Core.Bool.{Bool, true, false, not, ◌&&◌, true≢false}
 use mathlib.Core.List.{List, [], ◌∷◌}
 use mathlib.Core.Path.{◌≡◌, refl, sym, ◌∙◌}
-use borrow.Author.Tests.{leb-false, ltb-true, ltb-false}
-use lib.Dec.{eqb, leb, ltb, lit<}
+use lib.Dec.{lit<}
 use lib.IntN.{pos}
 use lib.ListN.{get_or, length, length-set, set}
 use lib.Pow.{pow_pos}
 use Rattle.std.proofs.lemmas.Grind.{common_steps}
 use Rattle.std.proofs.lemmas.Bool.Decides.{nat_tests}
-use Rattle.bools.specs.Pick.{pick}
 use Rattle.words.specs.Word.{bit, field_of}
 use Rattle.words.proofs.Fields.{bit_low}
 use Rattle.bools.proofs.Tests.{both, cases, pick_elim}
 use Rattle.lists.specs.Table.{each}
 use Rattle.lists.proofs.All.{all_each, all_set, all_tabulate}
-use Rattle.lists.proofs.Splice.{get_or_before, get_or_behind, get_or_inside}
 use Rattle.lists.proofs.Tables.{length_tabulate}
 use Rattle.counters.specs.declared.counter.Counter.{Counter}
 use Rattle.gates.specs.declared.gate.Gate.{Gate}
@@ -29,26 +26,26 @@ use Rattle.lines.specs.Lines.{bad_levels, phase_limit}
 use Rattle.lines.specs.Raw.{count_rises, raw_at}
 use Rattle.loader.specs.Loader.{request0, request_for}
 use Rattle.loader.specs.Memory.{loaded, memory_words, replaced, word_at}
-use Rattle.watchdogs.specs.Watchdog.{reset_in, reset_watchdogs, step_watchdogs, watchdog0, watchdog_at, watchdog_step, watchdog_top, with_reset}
+use Rattle.watchdogs.specs.Watchdog.{reset_in, reset_watchdogs, step_watchdogs, watchdog0, watchdog_at, watchdog_top, with_reset}
 use Rattle.device.specs.declared.map.Register.{Register}
-use Rattle.device.specs.declared.map.Register.TheVariants.{Nothing, Readout, Other, Control, Mode, Timeout, Key, Enable, Reload, Prepare, Recover, Input, Group, Word}
+use Rattle.device.specs.declared.map.Register.TheVariants.{Other, Control, Mode, Timeout, Key, Enable, Reload, Prepare, Recover, Input, Group, Word}
 use Rattle.device.specs.declared.map.Setting.{Setting}
-use Rattle.device.specs.declared.map.Setting.TheVariants.{Mask, WatchdogTimeout, WatchdogReset, Selection}
+use Rattle.device.specs.declared.map.Setting.TheVariants.{Mask, Selection}
 use Rattle.device.specs.declared.state.Common.{Common}
 use Rattle.device.specs.declared.state.Crate.{Crate}
 use Rattle.device.specs.declared.state.Rest.{Rest}
 use Rattle.device.specs.Answer.{is_done}
 use Rattle.loader.specs.Memory.{is_whole}
-use Rattle.registers.specs.Calls.{Call, tick, write, tag, download, after, called, download_answer, from, machine0, step}
+use Rattle.registers.specs.Calls.{Call, tick, write, tag, download, after, called, from, machine0, step}
 use Rattle.device.specs.Map.{decode_of, kept, used_bits}
 use Rattle.device.specs.State.{Machine, common0, memory0, power_up, with_groups, with_memory, with_registers, with_rest, with_state}
-use Rattle.tagging.specs.Tag.{noted_in, right_key, tag_of, tag_request}
+use Rattle.tagging.specs.Tag.{noted_in, tag_of, tag_request}
 use Rattle.ticking.specs.Tick.{common_tick, rest_tick, tick_of}
-use Rattle.writing.specs.Write.{control_write, dataset_in, enable_write, group_in, key_write, on_common, on_counters, on_gates, reload_answer, reload_write, request_answer, requested, reset_by, rest_write, triggers, with_reload, write_at}
+use Rattle.writing.specs.Write.{control_write, dataset_in, enable_write, group_in, key_write, on_common, on_counters, on_gates, reload_answer, reload_write, request_answer, requested, reset_by, rest_write, with_reload, write_at}
 use Rattle.registers.proofs.Whole.{accepted, length_replaced}
 use Rattle.sheet.specs.Reachable.{CommonInRange, CounterInRange, GateInRange, OfWords, Reached, RequestInRange, RestInRange}
 use Rattle.sheet.proofs.Changes.{tag_by}
-use Rattle.sheet.proofs.InRange.{cleared_in, counter0_in, gate_in_lem, input_in, handled_in, load_all, load_in, loader_in, phases_in, pushed_in, queue_in, request0_in, taken, tick_in, watchdog_in}
+use Rattle.sheet.proofs.InRange.{cleared_in, counter0_in, gate_in_lem, input_in, load_all, load_in, loader_in, phases_in, pushed_in, queue_in, request0_in, taken, tick_in, watchdog_in}
 
 -- the lowest n bits of a word are below 2 ^ n: no unused bit is stored
 kept_lt : (r : Register) (w : ℕ) → kept r w < 2 ^ used_bits r

@@ -2,9 +2,9 @@
 use Prim.Native.Nat.{ℕ, ◌+◌, ◌-◌, ◌*◌, ◌/◌, ◌%◌, ◌^◌, ◌≤◌, ◌<◌}
 use native.Mathlib.Nat.{lt_of_lt_of_le, mod-lt}
 use native.Mathlib.Omega.{arith}
-use mathlib.Core.Bool.{Bool, false, not, ◌&&◌, false≢true, true≢false}
-use mathlib.Core.List.{List, [], ◌∷◌}
-use mathlib.Core.Path.{◌≡◌, refl, sym, ap, subst, ◌∙◌}
+use mathlib.Core.Bool.{Bool, false, not, ◌&&◌, true≢false}
+use mathlib.Core.List.{List}
+use mathlib.Core.Path.{◌≡◌, refl, sym, ap, ◌∙◌}
 use borrow.Author.Tests.{eq-eqb, eqb-false, eqb-true, ltb-false, ltb-true, ne_eqb}
 use lib.Dec.{eqb, ltb}
 use lib.ListN.{get_or, length, length-set, get_or-eq_default, set}
@@ -12,21 +12,20 @@ use lib.Pow.{pow_mono, pow_pos}
 use lib.Seq.{get_or-set_same, get_or-set_other}
 use Rattle.std.proofs.lemmas.Grind.{common_steps}
 use Rattle.bools.specs.Pick.{pick}
-use Rattle.std.proofs.Common.{Ok, Option}
-use Rattle.words.specs.Word.{bit, fields, pack}
+use Rattle.std.proofs.Common.{Ok}
+use Rattle.words.specs.Word.{bit, pack}
 use Rattle.words.proofs.Fields.{bit_low}
 use Rattle.words.proofs.Gather.{pack_ext, pack_is}
 use Rattle.words.proofs.Packing.{bit_past}
-use Rattle.bools.proofs.Tests.{both, cases, pick_elim}
+use Rattle.bools.proofs.Tests.{both, cases}
 use Rattle.lists.specs.Table.{each}
 use Rattle.lists.proofs.Tables.{get_or_each, length_each, length_tabulate}
 use Rattle.counters.specs.declared.counter.Counter.{Counter}
 use Rattle.gates.specs.declared.gate.Gate.{Gate}
 use Rattle.watchdogs.specs.declared.watchdog.Watchdog.{Watchdog}
 use Rattle.gates.specs.Gate.{each_gate, failed, gate0, gate_at, gate_bits, is_error, mode, output, outputs_of, prepare, recover}
-use Rattle.gates.specs.Gate.{state_number, state_word, with_mode, with_prepare, with_recover, with_timeout}
+use Rattle.gates.specs.Gate.{state_word, with_mode, with_prepare, with_recover, with_timeout}
 use Rattle.counters.specs.Counter.{clear_counters, cleared, counter0, counter_at, is_over, is_under, overflow_word, reset_on, with_input}
-use Rattle.lines.specs.Raw.{raw_at}
 use Rattle.loader.specs.Loader.{busy}
 use Rattle.loader.specs.Memory.{is_whole, word_at}
 use Rattle.watchdogs.specs.Watchdog.{error_of, reset_in, reset_of, reset_watchdogs, step_watchdogs, watchdog0, watchdog_at, watchdog_word, with_reset}
@@ -35,22 +34,22 @@ use Rattle.device.specs.declared.map.Register.TheVariants.{Nothing, Readout, Oth
 use Rattle.device.specs.declared.map.Setting.{Setting}
 use Rattle.device.specs.declared.map.Setting.TheVariants.{Mask, WatchdogTimeout, WatchdogReset, Selection}
 use Rattle.device.specs.declared.map.Status.{Status}
-use Rattle.device.specs.declared.map.Status.TheVariants.{Module, Negative, Positive, GateErrors, WatchdogErrors, GateInputs, GateOutputs, Outputs}
-use Rattle.device.specs.declared.map.Status.TheVariants.{GateStates, TagLow, TagHigh, Code, LoaderState, LoaderCounter, Count, Raw, Threshold}
+use Rattle.device.specs.declared.map.Status.TheVariants.{Negative, Positive, WatchdogErrors, Outputs}
+use Rattle.device.specs.declared.map.Status.TheVariants.{Count}
 use Rattle.device.specs.declared.state.Common.{Common}
 use Rattle.device.specs.declared.state.Crate.{Crate}
 use Rattle.device.specs.declared.state.Rest.{Rest}
 use Rattle.device.specs.Answer.{is_done}
-use Rattle.registers.specs.Calls.{Call, tick, write, tag, download, after, answer, called, call_answer, download_answer, from, machine0, step}
+use Rattle.registers.specs.Calls.{Call, tick, write, tag, download, after, answer, called, call_answer, download_answer, machine0, step}
 use Rattle.interlocks.specs.Interlock.{interlocks, other_signals, output_count, selected, signals, trips, trips_by}
-use Rattle.device.specs.Map.{backplane_map, below, control_map, counter_map, decode_of, event_map, kept, output_block, output_words, status_map}
-use Rattle.reading.specs.Read.{answer_for, half_of, low_first, read_of, setting_word, status_word, with_word, word_in}
+use Rattle.device.specs.Map.{decode_of, kept, output_words}
+use Rattle.reading.specs.Read.{answer_for, read_of, setting_word, status_word, with_word, word_in}
 use Rattle.device.specs.State.{Machine, power_up, with_counters, with_gates, with_groups, with_memory, with_rest, with_state}
 use Rattle.tagging.specs.Tag.{noted_in, tag_of}
 use Rattle.ticking.specs.Tick.{rest_tick, tick_of}
 use Rattle.lines.specs.Lines.{bad_levels}
 use Rattle.writing.specs.Write.{control_write, enable_write, key_write, on_common, on_counters, on_gates, reload_answer, reload_write, requested, reset_by, rest_write}
-use Rattle.writing.specs.Write.{triggers, with_reload, write_answer, write_at}
+use Rattle.writing.specs.Write.{with_reload, write_answer, write_at}
 use Rattle.registers.proofs.Whole.{full, step_called}
 use Rattle.sheet.specs.Follows.{follows}
 use Rattle.sheet.proofs.Addresses.{InBlock, InMap, Placed, gap, named, address_of, in_map, placed}
@@ -219,11 +218,6 @@ read_back l a w e =
     ∙ back_at (after l) (sized_after l) (rest_after l) (decode_of a) (in_map a) w (sym (answered (after l) (sized_after l).memory a w) ∙ e)
 
 -- ---- the other registers: part by part, what a write to r leaves as it was
-
--- one element is written: P holds there, and of the others as they stand
-set_at : {A : Type 0} (P : ℕ → A → Type 0) (xs : List A) (i : ℕ) (a d : A) → i < length xs → P i a → ((j : ℕ) → P j (get_or xs j d)) →
-    (j : ℕ) → P j (get_or (set xs i a) j d)
-set_at P xs i a d h p q j = grind (arith, common_steps)
 
 -- every element steps: P holds of what it becomes, and of what stands past the end
 each_at : {A : Type 0} (P : ℕ → A → Type 0) (n : ℕ) (d : A) (g : ℕ → A → A) (xs : List A) → length xs ≡ n →

@@ -4,7 +4,6 @@ use Prim.Native.Nat.{ℕ, ◌+◌, ◌*◌, ◌/◌, ◌≤◌, ◌<◌}
 use mathlib.Core.Bool.{true, false}
 use mathlib.Core.List.{List, [], ◌∷◌, ◌++◌}
 use mathlib.Core.Path.{◌≡◌, sym, ap, subst, ◌∙◌}
-use borrow.Author.Tests.{eq-eqb}
 use lib.ListN.{length}
 use native.Mathlib.Omega.{arith}
 use Rattle.std.proofs.Common.{Ok, Result, Some}
@@ -17,7 +16,7 @@ use Rattle.device.specs.Answer.{Answer, is_done}
 use Rattle.interlocks.specs.declared.scan.OutputScan.{OutputScan}
 use Rattle.interlocks.specs.Interlock.{trips}
 use Rattle.interlocks.specs.Scan.{scan_of}
-use Rattle.registers.specs.Calls.{Call, write, accepted_ticks, after, answer, from, left_by_refusal, machine0, powered, powered_memory, refusals, step}
+use Rattle.registers.specs.Calls.{Call, write, accepted_ticks, after, from, left_by_refusal, machine0, powered, powered_memory, refusals, step}
 use Rattle.device.specs.Map.{decode_of, kept}
 use Rattle.reading.specs.Read.{low_first, read_of, word_shown}
 use Rattle.device.specs.State.{Machine, machine}
@@ -37,7 +36,7 @@ use Rattle.sheet.specs.Scans.{scan_at}
 use Rattle.sheet.specs.Sheet.{sheet_after, sheet_shows}
 use Rattle.sheet.specs.Shows.{shows}
 use Rattle.sheet.proofs.Finishes.{full_after}
-use Rattle.sheet.proofs.Theorems.{alike_cut, finishes, isolation, raw_reads, reachable, read_back, read_other, refused, run_halts, run_is_list, run_records, run_refusals, run_sound, run_stops, run_ticks, scan_ends, scan_least, scan_level, scan_whole}
+use Rattle.sheet.proofs.Theorems.{alike_cut, finishes, isolation, raw_reads, reachable, read_back, read_other, refused, run_is_list, run_records, run_refusals, run_sound, run_stops, run_ticks, scan_ends, scan_least, scan_level, scan_whole}
 
 -- one run
 traced : (m : Machine) (t : List ℕ) (budget : ℕ) (s : Crate) (report : Report) (memory : List ℕ) → Ran m t budget s report memory →

@@ -2,20 +2,17 @@
 use Prim.Native.Nat.{ℕ, ◌<◌}
 use native.Mathlib.Nat.{not-suc-le-zero}
 use native.Mathlib.Omega.{arith}
-use mathlib.Core.Bool.{Bool, true, false, false≢true}
-use mathlib.Core.Path.{◌≡◌, refl, sym, ap, ◌∙◌}
-use borrow.Author.Tests.{ltb-false, ltb-true, not-false, not-true}
-use lib.Dec.{ltb}
+use mathlib.Core.Bool.{true, false}
+use mathlib.Core.Path.{◌≡◌, refl}
+use borrow.Author.Tests.{not-false}
 use Rattle.bools.proofs.Tests.{cases}
 use Rattle.words.specs.Word.{bit}
 use Rattle.words.proofs.Packing.{bit_pack, bit_zero}
-use Rattle.lists.specs.Table.{least}
 use Rattle.lists.proofs.Tables.{get_d_tabulate, least_at, least_below, least_within}
 use Rattle.loader.specs.Memory.{is_whole}
 use Rattle.device.specs.Map.{decode_of, output_words, status_map}
 use Rattle.device.specs.State.{Machine}
-use Rattle.interlocks.specs.declared.scan.OutputScan.{OutputScan}
-use Rattle.interlocks.specs.Interlock.{interlock, interlocks, output_count, trips}
+use Rattle.interlocks.specs.Interlock.{interlocks, output_count, trips}
 use Rattle.interlocks.specs.Scan.{output_scan, scan_of, words_read}
 use Rattle.interlocks.proofs.Scanning.{words_all}
 use Rattle.reading.specs.Read.{read_of, status_word, word_in, word_shown}

@@ -3,7 +3,7 @@
 use Prim.Native.Nat.{ℕ, ◌+◌, ◌*◌, ◌/◌, ◌%◌, ◌<◌}
 use native.Mathlib.Nat.{mod-lt}
 use native.Mathlib.Omega.{arith}
-use mathlib.Core.Bool.{Bool, true, false, not, ◌&&◌, ◌||◌, false≢true}
+use mathlib.Core.Bool.{Bool, true, false, not, ◌||◌, false≢true}
 use mathlib.Core.List.{List, [], ◌∷◌}
 use mathlib.Core.Path.{◌≡◌, refl, sym, ap, ◌∙◌}
 use borrow.Author.Tests.{eqb-true, not-false, not-true}
@@ -11,7 +11,7 @@ use lib.Dec.{eqb}
 use lib.IntN.{pos}
 use lib.ListN.{get_or, length, length-set, set}
 use lib.Seq.{ext_get_or, set-get_or}
-use Rattle.std.proofs.Common.{Option, Some, None}
+use Rattle.std.proofs.Common.{Option}
 use Rattle.bools.specs.Pick.{pick}
 use Rattle.words.specs.Word.{bit}
 use Rattle.words.proofs.Fields.{bit_low}
@@ -21,9 +21,9 @@ use Rattle.counters.specs.declared.counter.Counter.{Counter}
 use Rattle.gates.specs.declared.gate.Gate.{Gate}
 use Rattle.loader.specs.declared.loader.Reload.{Reload}
 use Rattle.counters.specs.Counter.{cleared, counter_step, counter_tick, reset_on, with_count, with_input}
-use Rattle.gates.specs.Gate.{each_gate, gate0, gate_at, gate_bits, gate_step, gate_with, mode, prepare, recover, with_mode, with_prepare, with_prepare_pulse, with_recover, with_recover_pulse, with_timeout}
+use Rattle.gates.specs.Gate.{each_gate, gate0, gate_at, gate_bits, gate_step, mode, prepare, recover, with_mode, with_prepare, with_prepare_pulse, with_recover, with_recover_pulse, with_timeout}
 use Rattle.gates.proofs.Gates.{gate_bit, length_each_gate}
-use Rattle.loader.specs.Loader.{is_beyond, takes}
+use Rattle.loader.specs.Loader.{is_beyond}
 use Rattle.loader.specs.Memory.{loaded}
 use Rattle.device.specs.declared.map.Register.TheVariants.{Control, Enable, Input, Key, Timeout, Word}
 use Rattle.device.specs.declared.state.Common.{Common}
@@ -74,9 +74,6 @@ unfolding all_pulsed
 pulses_same f pulse law t gates size e =
     gates_same f t gates size
     (λ g h. law (bit t g) (gate_at gates g) (every_each 12 (λ g. pulse (gate_at gates g) || not (bit t g)) e g h))
-
-adds_nothing : (p b : Bool) → p || not b ≡ true → p || b ≡ p
-adds_nothing p b e = grind arith
 
 no_prepare : (b : Bool) (g : Gate) → prepare_pulse g || not b ≡ true → with_prepare_pulse b g ≡ g
 no_prepare b g e = grind arith

@@ -7,13 +7,13 @@ use mathlib.Core.Logic.{◌↔◌}
 use mathlib.Core.Path.{◌≡◌, refl, sym, ap, ◌∙◌}
 use borrow.Author.Tests.{eqb-true}
 use Rattle.std.proofs.Common.{rules}
-use Rattle.std.proofs.Common.{Option, Some, None}
+use Rattle.std.proofs.Common.{Option}
 use Rattle.bools.proofs.Tests.{cases}
 use Rattle.device.specs.declared.map.Register.TheVariants.{Input}
 use Rattle.device.specs.Map.{kept}
 use Rattle.registers.specs.Calls.{Call, after}
 use Rattle.sheet.specs.Lines.{Holds, Lines, join, no_lines, own_lines}
-use Rattle.sheet.specs.OwnPart.{Part, ticked, patched, stored, controlled, keyed, enabled, reloaded, timed, grouped, moded, prepared, recovered, tagged, downloaded, added, own, own_part}
+use Rattle.sheet.specs.OwnPart.{Part, patched, added, own, own_part}
 use Rattle.sheet.specs.Settled.{SettledCut, repeats, settled, settled_from, settled_part_of}
 use Rattle.sheet.specs.Sheet.{Sheet, sheet0, sheet_after, sheet_from, sheet_shows, sheet_step}
 use Rattle.sheet.specs.Shows.{shows}

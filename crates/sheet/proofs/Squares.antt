@@ -1,60 +1,45 @@
 -- One square for each call: to step the machine and cut the sheet out is to cut the sheet out and step it by the own part.
-use Prim.Native.Nat.{ℕ, ◌+◌, ◌*◌, ◌≤◌, ◌<◌, ◌/◌, ◌%◌}
-use native.Mathlib.Nat.{mod-lt}
+use Prim.Native.Nat.{ℕ, ◌+◌, ◌*◌, ◌<◌, ◌/◌, ◌%◌}
 use native.Mathlib.Omega.{arith}
 use mathlib.Core.Bool.{false}
 use mathlib.Core.List.{List}
-use mathlib.Core.Path.{◌≡◌, refl, sym, ap, ◌∙◌}
-use borrow.Author.Tests.{eqb-true, eqb-false, eq-eqb, ne_eqb, ltb-true, ltb-false}
-use lib.Dec.{eqb, ltb}
-use lib.ListN.{length, get_or, set}
+use mathlib.Core.Path.{◌≡◌, refl, ap, ◌∙◌}
+use borrow.Author.Tests.{eqb-true, ne_eqb}
+use lib.Dec.{eqb}
+use lib.ListN.{length, get_or}
 use Rattle.std.proofs.lemmas.Grind.{common_steps}
-use Rattle.std.proofs.Common.{Option, Some, None}
+use Rattle.std.proofs.Common.{Option}
 use Rattle.bools.specs.Pick.{pick}
 use Rattle.words.specs.Word.{masked_bits}
 use Rattle.words.proofs.Fields.{nibble_low}
-use Rattle.bools.proofs.Tests.{agree, cases, pick_ap, pick_same}
-use Rattle.lists.proofs.Splice.{get_or_before, get_or_behind, get_or_inside}
+use Rattle.bools.proofs.Tests.{cases, pick_ap}
 use Rattle.lists.proofs.Tables.{get_or_each, get_d_set, get_d_tabulate, length_each, set_tabulate, tabulate_ext}
 use Rattle.counters.specs.declared.counter.Counter.{Counter}
 use Rattle.loader.specs.declared.loader.Reload.{Reload as Reloading}
 use Rattle.counters.specs.Counter.{clear_counters, cleared, counter0, counter_at, counter_tick, reset_on, tick_counters}
-use Rattle.gates.specs.declared.gate.Gate.{Gate}
-use Rattle.gates.specs.Gate.{each_gate, gate0, gate_step, outputs_of, with_mode, with_prepare, with_prepare_pulse, with_recover, with_recover_pulse, with_timeout}
-use Rattle.lines.specs.Lines.{bad_levels, rises_of}
-use Rattle.loader.specs.Loader.{group_at, takes, load_into}
+use Rattle.gates.specs.Gate.{each_gate, gate_step, outputs_of, with_timeout}
+use Rattle.lines.specs.Lines.{rises_of}
+use Rattle.loader.specs.Loader.{group_at, load_into}
 use Rattle.loader.specs.Memory.{loaded, place_of, replaced, word_at}
 use Rattle.device.specs.declared.map.Register.{Register}
-use Rattle.device.specs.declared.map.Register.TheVariants.{Nothing, Readout, Other, Control, Mode, Timeout, Key, Enable, Reload, Prepare, Recover, Input, Group, Word}
-use Rattle.device.specs.declared.state.Crate.{Crate}
+use Rattle.device.specs.declared.map.Register.TheVariants.{Timeout, Input, Group, Word}
 use Rattle.device.specs.declared.state.Rest.{Rest}
-use Rattle.device.specs.Answer.{is_done}
-use Rattle.registers.specs.Calls.{Call, tick, write, tag, download, called, download_answer, step}
-use Rattle.device.specs.Map.{decode_of, kept}
+use Rattle.registers.specs.Calls.{Call, download, called, step}
+use Rattle.device.specs.Map.{kept}
 use Rattle.device.specs.State.{Machine, with_rest, with_state}
-use Rattle.tagging.specs.Tag.{command_of, commanded, events_on, right_key, tag_of}
+use Rattle.tagging.specs.Tag.{commanded, tag_of}
 use Rattle.ticking.specs.Tick.{tick_of}
-use Rattle.writing.specs.Write.{control_write, reset_by, write_at}
+use Rattle.writing.specs.Write.{reset_by, write_at}
 use Rattle.registers.proofs.Whole.{accepted, step_called}
 use Rattle.sheet.specs.Lines.{Lines}
-use Rattle.sheet.specs.OwnPart.{four_of, is_own_word, own, own_at, own_tag, own_word}
-use Rattle.sheet.specs.Sheet.{Sheet, put_common, put_counter, put_gates, put_group, put_memory, put_four, reset_counter, sheet_command, sheet_load, sheet_step, sheet_tag, sheet_tick}
-use Rattle.sheet.proofs.Changes.{pick_square}
+use Rattle.sheet.specs.OwnPart.{four_of, own, own_at, own_tag, own_word}
+use Rattle.sheet.specs.Sheet.{put_gates, put_four, reset_counter, sheet_command, sheet_load, sheet_step, sheet_tag, sheet_tick}
 use Rattle.sheet.proofs.OwnTag.{own_tag_command, own_tag_gates, own_tag_key, own_tag_whole}
-use Rattle.sheet.proofs.Projection.{Fits, Sized, counter_tick_own, own_gates, own_gates_each, own_gates_other, own_gates_set, own_place, own_words}
+use Rattle.sheet.proofs.Projection.{Fits, Sized, counter_tick_own, own_gates_each, own_gates_other, own_gates_set, own_place, own_words}
 use Rattle.sheet.proofs.Projection.{own_words_at, own_words_first, sheet≡, sheet_in}
 use Rattle.sheet.proofs.Fed.{sheet_step_by}
 
 -- ---- a place of the memory taken apart and put together again
-
-parts : (q c r a : ℕ) → c < 128 → r < 4 → place_of q c + r ≡ a → (a / 512 ≡ q) × (a % 4 ≡ r) × (a % 512 / 4 ≡ c)
-parts q c r a c< r< e = (omega arith, omega arith, omega arith)
-
-rebuilt : (k : ℕ) → 4 * (k / 4) + k % 4 ≡ k
-rebuilt k = omega arith
-
-whole : (a : ℕ) → place_of (a / 512) (a % 512 / 4) + a % 4 ≡ a
-whole a = omega arith
 
 module _ (c : ℕ) (c< : c < 128) where
   -- own word k stands within the memory; it is a certain place exactly where k is that place's number
