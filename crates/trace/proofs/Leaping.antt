@@ -1,4 +1,4 @@
--- So many ticks at the same levels: in parts, refused ones, and a quiet stretch at once.
+-- So many ticks at the same levels: in parts, and a quiet stretch at once.
 use Prim.Native.Nat.{ℕ, zero, suc, ◌-◌, ◌≤◌, ◌<◌}
 use native.Mathlib.Omega.{arith}
 use mathlib.Core.Bool.{true, false}
@@ -29,17 +29,6 @@ calls_split (suc k) n m x h =
     let e : n - suc k ≡ n - 1 - k = omega arith in
     let d : suc k - 1 ≡ k = omega arith in
     rw (← (calls_less (suc k) m x (omega arith)), d, e) (calls_split k (n - 1) (step m x) x (omega arith) ∙ calls_less n m x (omega arith))
-
--- a call that changes nothing changes nothing again
-pub calls_refused : (n : ℕ) (m : Machine) (x : Call) → step m x ≡ m → from m (repeated n x) ≡ m
-calls_refused zero m x e = calls_none m x
-calls_refused (suc n) m x e =
-    let d : suc n - 1 ≡ n = omega arith in
-    sym (calls_less (suc n) m x (omega arith)) ∙ rw (d, e) (calls_refused n m x e)
-
-pub memory_refused : (m : Machine) (x : Call) → (length m.memory ≡ 16384 → ⊥) → step m x ≡ m
-unfolding step
-memory_refused m x e = rw (ne_eqb (length m.memory) 16384 e)
 
 module _ (memory : List ℕ) (inputs gates : ℕ) (whole : length memory ≡ 16384) (good : bad_levels inputs gates ≡ false) where
   tick_made : (s : Crate) → step (machine s memory) (tick inputs gates) ≡ machine (tick_of s memory inputs gates) memory

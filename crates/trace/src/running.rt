@@ -20,6 +20,7 @@ use records::{Record, Stop};
 const WORTH: u64 = 4;
 
 // What is left of so many ticks at the same levels, after a quiet stretch of them at once.
+#[tactic(auto, using(crate::proofs::Leaping::leapt_end, crate::proofs::Leaping::same_end, leaps::proofs::Theorems::stretch_le))]
 fn leap_on(state: &mut Crate, left: u64, levels: Levels) -> u64
     ensures { (result ≤ left) × SameEnd levels.inputs levels.gates state.old left state.new result }
 {
@@ -102,6 +103,7 @@ impl<'a> Running<'a> {
     }
 
     // A tick record: refused by its levels, or too long for the ticks left, or so many ticks.
+    #[tactic(auto, unfolding(crate::specs::Run::ticks_in, crate::specs::Run::passes, registers::specs::Calls::from), using(crate::proofs::Steps::tick_refused, bools::proofs::Tests::tests))]
     fn run_ticks(
         &mut self,
         state: &mut Crate,
