@@ -129,6 +129,7 @@ impl<'a> Running<'a> {
     }
 
     // One record: what it does, or why the run stops before it.
+    #[tactic(auto, unfolding(crate::specs::Run::once_of, crate::specs::Run::by_record))]
     fn once(&mut self, state: &mut Crate, mem: &mut [u16; 16384]) -> Result<(), Stop>
         requires { Sound self.old.trace.now self.old.budget (so_far self.old) × (self.old.budget < 2 ^ 64) }
         ensures { (run_run (turned result state.new (so_far self.new)) mem.new ≡ once_of self.old.trace.now self.old.budget (run_run (progress_of state.old (so_far self.old) true) mem.old))

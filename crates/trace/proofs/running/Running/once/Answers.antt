@@ -1,9 +1,8 @@
 -- `once` meets its contract: a record is known and stands whole (`whole_at`), and its call ensures the rest (`call_made`).
 use native.Mathlib.Omega.{arith}
 use mathlib.Core.Bool.{true}
-use mathlib.Core.Path.{refl, ap, ◌∙◌}
+use mathlib.Core.Path.{ap, ◌∙◌}
 use Rattle.std.specs.Result.{is_err}
-use Rattle.std.proofs.lemmas.Result.{err_from_is_err_and}
 use Rattle.registers.specs.Calls.{write, tag}
 use Rattle.trace.specs.Run.{Run, by_record, once_of, progress_of, run}
 use Rattle.trace.specs.Turns.{so_far}
@@ -11,22 +10,11 @@ use Rattle.trace.proofs.Steps.{call_made, room_at, whole_at}
 use Rattle.trace.proofs.running.Running.once.Goals as goal
 use Rattle.trace.proofs.running.Running.once.Goals.{in-Write, in-Tag}
 
-pub returns-in_err-n : goal.returns-in_err-n
-unfolding once_of by_record
-returns-in_err-n c =
-    let e = err_from_is_err_and c.from_residual.result c.from_residual.ensures.1 in
-    (rw (e.1, e.2, ← c.record_at.ensures, c.in_err-n.was), record { trace = refl; budget = refl })
-
 pub run_ticks-requires : goal.run_ticks-requires
 run_ticks-requires c =
     let a = c.args in
     let h = whole_at a.self.now.trace.now a.self.now.next c.record_at.ensures c.in_ok-n.was in
     (room_at (so_far a.self.now) c.requires.0 h (omega arith) c.requires.1, c.requires.0.spent)
-
-pub returns-in-Ticks : goal.returns-in-Ticks
-unfolding once_of by_record
-returns-in-Ticks c =
-    (rw (← c.record_at.ensures, c.in_ok-n.was, c.in-Ticks.is) c.run_ticks.ensures.0, c.run_ticks.ensures.1)
 
 pub pass-requires : goal.pass-requires
 pass-requires c =
