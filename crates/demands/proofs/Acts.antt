@@ -5,14 +5,12 @@ use mathlib.Core.Bool.{Bool, true}
 use mathlib.Core.List.{List, [], ◌∷◌, ◌++◌, append_assoc}
 use mathlib.Core.Path.{◌≡◌, refl, sym, ap, subst, ◌∙◌}
 use borrow.Author.Tests.{eq-eqb}
-use Rattle.std.proofs.Common.{Result, Ok}
+use Rattle.std.proofs.Common.{Ok}
 use Rattle.lists.proofs.Tables.{length_tabulate}
 use Rattle.loader.specs.Memory.{is_whole}
-use Rattle.device.specs.declared.answer.Refusal.{Refusal}
 use Rattle.device.specs.declared.state.Crate.{Crate}
 use Rattle.device.specs.Answer.{Answer, number_of}
 use Rattle.device.specs.State.{Machine, machine, memory0}
-use Rattle.interlocks.specs.declared.scan.OutputScan.{OutputScan}
 use Rattle.interlocks.specs.Scan.{scan_of}
 use Rattle.reading.specs.Read.{read_of}
 use Rattle.records.specs.Stops.{stop_number}
@@ -21,7 +19,7 @@ use Rattle.registers.proofs.Lists.{from_append}
 use Rattle.sheet.proofs.Theorems.{run_halts, run_is_list}
 use Rattle.trace.specs.Run.{Run, machine_of, progress_of, run, run_of}
 use Rattle.demands.specs.Returned.{Acted, Powered, Rehearsed, Saw, Went}
-use Rattle.demands.specs.Seen.{Act, calling, reading, scanning, tracing, Seen, answered, told, scanned, reported, numbered, callings, calls_by, leaving, list_from, list_of, seen_from, seen_of, showing}
+use Rattle.demands.specs.Seen.{Act, calling, reading, scanning, tracing, Seen, answered, reported, numbered, callings, calls_by, leaving, list_from, list_of, seen_from, seen_of, showing}
 
 -- ---- what is returned is what is to be seen
 
@@ -123,13 +121,10 @@ pub list_append : (m : Machine) (l k : List Act) → list_from m (l ++ k) ≡ li
 unfolding list_from from
 list_append m [] k = refl
 list_append m (x ∷ l) k =
-    ap (λ (rest : List Call). calls_by m x ++ rest)
-    (list_append (leaving m x) l k
-    ∙ ap (λ (n : Machine). list_from (leaving m x) l ++ list_from n k) (sym (from_append m (calls_by m x) (list_from (leaving m x) l))))
-    ∙ sym (append_assoc (calls_by m x) (list_from (leaving m x) l) _)
+    rw (list_append (leaving m x) l k, from_append m (calls_by m x) (list_from (leaving m x) l), append_assoc (calls_by m x) (list_from (leaving m x) l) _)
 
 -- calls made one by one are the list of them
 pub one_by_one : (m : Machine) (l : List Call) → list_from m (callings l) ≡ l
 unfolding list_from calls_by
 one_by_one m [] = refl
-one_by_one m (x ∷ l) = ap {B = List Call} (λ (rest : List Call). x ∷ rest) (one_by_one (leaving m (calling x)) l)
+one_by_one m (x ∷ l) = cc (one_by_one (leaving m (calling x)) l)

@@ -10,7 +10,6 @@ use Rattle.device.specs.Answer.{is_done}
 use Rattle.device.specs.State.{Machine}
 use Rattle.registers.specs.Calls.{Call}
 use Rattle.loader.specs.Memory.{is_whole}
-use Rattle.records.specs.declared.Stop.{Stop}
 use Rattle.records.specs.Records.{Found, levels_at, payload_at, record_at, ticks_at}
 use Rattle.sheet.proofs.Theorems.{run_halts, run_stops}
 use Rattle.trace.specs.Passed.{calls_of}

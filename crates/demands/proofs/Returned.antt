@@ -24,7 +24,7 @@ use Rattle.registers.specs.Calls.{Call, write, accepted_ticks, after, answer, fr
 use Rattle.registers.proofs.Lists.{from_append}
 use Rattle.sheet.specs.Follows.{follows}
 use Rattle.sheet.specs.Lines.{Holds, Lines, own_lines}
-use Rattle.sheet.specs.OwnPart.{Cut, Part, own_part, own_part_of}
+use Rattle.sheet.specs.OwnPart.{Cut, own_part, own_part_of}
 use Rattle.sheet.specs.Raw.{levels_of, raw_count}
 use Rattle.sheet.specs.Reachable.{OfWords, Reached}
 use Rattle.sheet.specs.Requests.{Stands, finished, request_made, stand_after, waits}
@@ -188,7 +188,7 @@ module _ (m : Machine) (t : List ℕ) (budget : ℕ) (s : Crate) (report : Repor
   code_run_halts = ap (λ (r : Run). r.progress.going) (sym ran)
 
   pub code_run_stops : is_whole m.memory ≡ true → once_of t budget (run (progress_of s report false) memory) ≡ run (progress_of s report false) memory
-  code_run_stops e = subst (λ (r : Run). once_of t budget r ≡ r) (sym ran) (run_stops t budget m e)
+  code_run_stops e = rw ran (run_stops t budget m e)
 
   pub code_run_sound : Sound t budget report
   code_run_sound = subst (λ (r : Run). Sound t budget r.progress.report) (sym ran) (run_sound t budget m)
@@ -209,15 +209,13 @@ seen_at : (m : Machine) (l : List Act) (x : Act) (more : List Act) (d : Seen) �
     get_or (seen_from m (l ++ (x ∷ more))) (length l) d ≡ showing (from m (list_from m l)) x
 unfolding seen_from list_from from
 seen_at m [] x more d = refl
-seen_at m (y ∷ l) x more d =
-    seen_at (leaving m y) l x more d
-    ∙ ap (λ (k : Machine). showing k x) (sym (from_append m (calls_by m y) (list_from (leaving m y) l)))
+seen_at m (y ∷ l) x more d = cc (seen_at (leaving m y) l x more d, from_append m (calls_by m y) (list_from (leaving m y) l))
 
 -- of a list from power-up, whose answer stands first
 seen_behind : (l : List Act) (x : Act) (more : List Act) (seen : List Seen) (n : Machine) → Saw (l ++ (x ∷ more)) seen n → (d : Seen) →
     get_or seen (suc (length l)) d ≡ showing (after (list_of l)) x
 unfolding seen_of after list_of
-seen_behind l x more seen n h d = ap (λ (s : List Seen). get_or s (suc (length l)) d) (saw _ seen n h).0 ∙ seen_at machine0 l x more d
+seen_behind l x more seen n h d = rw (saw _ seen n h).0 (seen_at machine0 l x more d)
 
 pub seen_read : (l : List Act) (a : ℕ) (more : List Act) (seen : List Seen) (n : Machine) → Saw (l ++ (reading a ∷ more)) seen n → (d : Seen) →
     get_or seen (suc (length l)) d ≡ told (read_of (after (list_of l)) a) (number_of (read_of (after (list_of l)) a))

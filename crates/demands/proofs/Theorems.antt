@@ -1,14 +1,14 @@
 -- The three demands, a page each, of what the library's functions return: full statements, a line or two of plain words each, proved by citing
 -- the file that does the work. What is asked of the functions (`Acted`, `Saw`, `Rehearsed`) is their contracts and no more (Contracts.antt).
 use Prim.Native.Nat.{ℕ, suc, ◌+◌, ◌-◌, ◌*◌, ◌/◌, ◌<◌, ◌≤◌}
+use native.Mathlib.Omega.{arith}
 use mathlib.Core.Bool.{true, false}
 use mathlib.Core.List.{List, ◌∷◌, ◌++◌}
-use mathlib.Core.Path.{◌≡◌, refl, sym, ap, subst, ◌∙◌}
+use mathlib.Core.Path.{◌≡◌, sym, subst, ◌∙◌}
 use borrow.Author.Tests.{eq-eqb}
 use lib.ListN.{get_or, length}
 use Rattle.std.proofs.Common.{Result, Ok, Some}
 use Rattle.bools.specs.Pick.{pick}
-use Rattle.bools.proofs.Tests.{cases}
 use Rattle.loader.specs.declared.loader.Request.{Request}
 use Rattle.loader.specs.Memory.{is_whole}
 use Rattle.device.specs.declared.answer.Refusal.{Refusal}
@@ -54,11 +54,7 @@ ends m x seen n w = ((acting.acted m x seen n w).0 ∙ ending.shown m x, (acting
 pub power_up_ends : (memory : List ℕ) (r : Crate × Answer) (left : List ℕ) (k : ℕ) → Powered memory r left → Numbered r.1 k →
     (k ≡ number_of (first (power_up_conditions memory) (Ok tt))) × (r.0 ≡ power_up) × (left ≡ pick (is_whole memory) memory0 memory)
 unfolding powered powered_memory
-power_up_ends memory r left k up number = (
-  number ∙ ap (λ (o : Crate × Answer). number_of o.1) up.0 ∙ cases (is_whole memory) (λ e. rw e refl) (λ e. rw e refl),
-  ap (λ (o : Crate × Answer). o.0) up.0,
-  up.1,
-)
+power_up_ends memory r left k up number = (rw (number, up.0) (grind arith), rw up.0, up.1)
 
 -- Of a run, whatever it has done so far, the next record meets the first of its checks that holds: it stops the run, is refused 6, or passes.
 pub record_ends : (t : List ℕ) (budget : ℕ) (r : Run) →
@@ -69,7 +65,7 @@ record_ends = passing.once
 -- So a run is its records one after the other from its beginning, each by its fate, to the one that stops it: none is skipped.
 pub run_goes : (m : Machine) → is_whole m.memory ≡ true → (t : List ℕ) (budget : ℕ) (s : Crate) (report : Report) (memory : List ℕ) →
     Ran m t budget s report memory → Goes t budget (run (progress_of s report false) memory) (begun m)
-run_goes m whole t budget s report memory ran = subst (λ (r : Run). Goes t budget r (begun m)) (sym ran) (passing.run_goes t budget m whole)
+run_goes m whole t budget s report memory ran = rw ran (passing.run_goes t budget m whole)
 
 -- And the cause that a run reports is the check that the record at the next offset meets.
 pub run_cause : (m : Machine) → is_whole m.memory ≡ true → (t : List ℕ) (budget : ℕ) (s : Crate) (report : Report) (memory : List ℕ) →
@@ -112,29 +108,27 @@ module _ (l : List Act) (t : List ℕ) (budget : ℕ) (more : List Act) (seen : 
 
   -- the cause by which the record at the next offset stops it,
   pub seen_cause : stopped r.stop ≡ fate_of t r.next (budget - r.ticks)
-  seen_cause =
-      subst (λ (q : Report). stopped q.stop ≡ fate_of t q.next (budget - q.ticks)) (sym seen_report)
-      (passing.run_cause t budget given (eq-eqb _ _ (full_after (list_of l))))
+  seen_cause = rw seen_report (passing.run_cause t budget given (eq-eqb _ _ (full_after (list_of l))))
 
   -- the offset behind the records that it passed,
   pub seen_next : r.next ≡ bytes_in (passed_in t budget given)
-  seen_next = ap (λ (q : Report). q.next) seen_report ∙ placing.run_next t budget given
+  seen_next = rw seen_report (placing.run_next t budget given)
 
   -- within the trace, and numbers within it and the budget,
   pub seen_sound : Sound t budget r
-  seen_sound = subst (Sound t budget) (sym seen_report) (run_sound t budget given)
+  seen_sound = rw seen_report (run_sound t budget given)
 
   -- the ticks that were accepted of the calls of the records that it passed,
   pub seen_ticks : r.ticks ≡ accepted_ticks (calls_in (passed_in t budget given))
-  seen_ticks = ap (λ (r : Report). r.ticks) seen_report ∙ run_ticks t budget given
+  seen_ticks = rw seen_report (run_ticks t budget given)
 
   -- the number of these records,
   pub seen_records : r.records ≡ length (passed_in t budget given)
-  seen_records = ap (λ (r : Report). r.records) seen_report ∙ run_records t budget given
+  seen_records = rw seen_report (run_records t budget given)
 
   -- and the number of their calls that were refused.
   pub seen_refusals : r.refused ≡ refusals given (calls_in (passed_in t budget given))
-  seen_refusals = ap (λ (r : Report). r.refused) seen_report ∙ run_refusals t budget given
+  seen_refusals = rw seen_report (run_refusals t budget given)
 
 -- ---- Demand 3: "For every list of ticks, writes, event tags and downloads, refused ones included, and every counter: its count, thresholds
 -- and both overflow bits equal those that 01's one-counter sheet gives for the counter's own part of the list."

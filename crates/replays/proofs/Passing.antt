@@ -5,7 +5,6 @@ use native.Mathlib.Omega.{arith}
 use mathlib.Core.Bool.{true, false}
 use mathlib.Core.List.{List, [], ◌∷◌, ◌++◌, map, map-append, append_assoc, append-nil}
 use mathlib.Core.Path.{◌≡◌, refl, sym, ap, subst, ◌∙◌}
-use borrow.Author.Tests.{le-ltb}
 use lib.ListN.{length, replicate, length-append, length-replicate}
 use Rattle.std.proofs.Common.{Err}
 use Rattle.lists.proofs.Tables.{tabulate_fill}
@@ -15,7 +14,7 @@ use Rattle.lines.specs.Lines.{bad_levels}
 use Rattle.registers.specs.Calls.{Call, from}
 use Rattle.registers.proofs.Lists.{from_append}
 use Rattle.records.specs.declared.Stop.TheVariants.{End}
-use Rattle.records.specs.Records.{Found, next_at, record_at}
+use Rattle.records.specs.Records.{next_at, record_at}
 use Rattle.trace.specs.Run.{Run, begun, by_record, machine_of, once_of, passes, repeated, report_of, run_from, run_of, run_on, stops_by, ticks_in}
 use Rattle.trace.proofs.Halts.{turn as turning}
 use Rattle.trace.proofs.Listed.{halted_stays}
@@ -61,7 +60,7 @@ ended_by_lem t e f g h = λ i. run_on (e i) (report_of End (length t) (f i) (g i
 
 ended_none : (t : List ℕ) (q : Run) → place q ≡ length t → stops_by End q ≡ ended t [] q
 unfolding from expand
-ended_none t q e = rw (e, add-zero, add-zero)
+ended_none t q e = rw e (simp add-zero)
 
 -- a run that passed a record
 abbrev after : List ℕ → Run → Repeat Frame → Run
