@@ -37,7 +37,7 @@ use Rattle.sheet.proofs.Changes.{sheet_tag_by, tag_by}
 use Rattle.sheet.proofs.Fed.{sheet_step_by}
 use Rattle.sheet.proofs.Projection.{Fits, Sized}
 
--- ---- the lengths are kept: one law for each change of the record, and no field is named again
+-- ---- the lengths are kept
 
 sized_memory : (m : Machine) → Sized m → (x : List ℕ) → length x ≡ 16384 → Sized (with_memory m x)
 sized_memory m s x p = assumption

@@ -39,7 +39,7 @@ use Rattle.sheet.proofs.Projection.{Fits, Sized, counter_tick_own, own_gates_eac
 use Rattle.sheet.proofs.Projection.{own_words_at, own_words_first, sheet≡, sheet_in}
 use Rattle.sheet.proofs.Fed.{sheet_step_by}
 
--- ---- a place of the memory taken apart and put together again
+-- ---- the words of the memory, and the loader
 
 module _ (c : ℕ) (c< : c < 128) where
   -- own word k stands within the memory; it is a certain place exactly where k is that place's number
