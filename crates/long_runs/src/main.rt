@@ -45,7 +45,9 @@ impl Machine {
 
     // The word of a register that is there.
     fn word(&self, address: u16) -> u64 {
-        registers::read(&self.state, &self.mem, address).unwrap_or(0).into()
+        registers::read(&self.state, &self.mem, address)
+            .unwrap_or(0)
+            .into()
     }
 
     // Two registers as one number, the second first.

@@ -92,12 +92,7 @@ const REFUSED: [OutputScan; 6] = [OutputScan {
 
 // Runs a trace from power-up and fills in its report: the crate that it leaves, and the report.
 #[tactic(auto, unfolding(crate::specs::Exported::run_on))]
-fn run_and_report(
-    mem: &mut [u16],
-    bytes: &[u8],
-    budget: u64,
-    report: &mut [u64],
-) -> (Crate, Report)
+fn run_and_report(mem: &mut [u16], bytes: &[u8], budget: u64, report: &mut [u64]) -> (Crate, Report)
     requires { length report.old ≡ report_words }
     ensures { (run_run (progress_of result.0 result.1 false) mem.new ≡ run_on mem.old bytes.now budget) × (report.new ≡ report_of result.1) }
 {
