@@ -79,9 +79,9 @@ pub fn power_up(mem: &mut [u16]) -> (Crate, Result<(), Refusal>)
 pub fn read(state: &Crate, mem: &[u16], address: u16) -> Result<u16, Refusal>
     ensures { result ≡ read_of (machine state.now mem.now) address }
 {
+    let register = device::decode(address);
     let mem = mem.as_array().ok_or(Refusal::Memory)?;
-    let register = device::decode(address).ok_or(Refusal::Address)?;
-    Ok(reading::word_in(state, mem, register))
+    Ok(reading::word_in(state, mem, register.ok_or(Refusal::Address)?))
 }
 
 // A scan of the six outputs: levels and words read.
@@ -102,8 +102,7 @@ pub fn write(state: &mut Crate, mem: &mut [u16], address: u16, word: u16) -> Res
     ensures { (result ≡ answer (machine state.old mem.old) (call_write address word)) × (machine state.new mem.new ≡ step (machine state.old mem.old) (call_write address word)) }
 {
     let mem = mem.as_mut_array().ok_or(Refusal::Memory)?;
-    let register = device::decode(address).ok_or(Refusal::Address)?;
-    writing::write_at(state, mem, register, word)
+    writing::write_at(state, mem, device::decode(address).ok_or(Refusal::Address)?, word)
 }
 
 // An event tag.

@@ -10,7 +10,6 @@ use Rattle.bools.specs.Pick.{pick}
 use Rattle.words.specs.Word.{pack}
 use Rattle.counters.specs.Counter.{counter0, with_count, with_thresholds}
 use Rattle.registers.specs.Calls.{Call, tick, write, tag, download}
-use Rattle.device.specs.Map.{decode_of}
 use Rattle.sheet.specs.Follows.{follows_at}
 use Rattle.sheet.specs.Lines.{own_lines}
 use Rattle.sheet.specs.OwnPart.{Part, ticked, patched, stored, controlled, keyed, enabled, reloaded, timed, grouped, moded, prepared, recovered, tagged, downloaded, own_part_of}
