@@ -13,7 +13,7 @@ use Rattle.loader.specs.Memory.{is_whole}
 use Rattle.device.specs.declared.answer.Refusal.{Refusal}
 use Rattle.device.specs.declared.state.Crate.{Crate}
 use Rattle.device.specs.Answer.{Answer, is_done, number_of}
-use Rattle.device.specs.Map.{decode_of, kept}
+use Rattle.device.specs.Map.{kept_at}
 use Rattle.device.specs.State.{Machine}
 use Rattle.interlocks.specs.declared.scan.OutputScan.{OutputScan}
 use Rattle.interlocks.specs.Interlock.{trips}
@@ -22,7 +22,7 @@ use Rattle.reading.specs.Read.{low_first, read_of, word_shown}
 use Rattle.records.specs.Stops.{stop_number}
 use Rattle.registers.specs.Calls.{Call, write, accepted_ticks, after, answer, from, left_by_refusal, machine0, refusals, step}
 use Rattle.registers.proofs.Lists.{from_append}
-use Rattle.sheet.specs.Follows.{follows}
+use Rattle.sheet.specs.Follows.{follows_at}
 use Rattle.sheet.specs.Lines.{Holds, Lines, own_lines}
 use Rattle.sheet.specs.OwnPart.{Cut, own_part, own_part_of}
 use Rattle.sheet.specs.Raw.{levels_of, raw_count}
@@ -97,13 +97,13 @@ module _ (l : List Act) (n : Machine) (h : Rehearsed l n) where
 
   -- a write that `write` accepted, and a read after it
   pub code_read_back : (a w : ℕ) (given : Answer) (k : Machine) → Returned n (write a w) given k → given ≡ Ok tt →
-      (q : Result ℕ Refusal) → Looked k a q → q ≡ Ok (kept (decode_of a) w)
+      (q : Result ℕ Refusal) → Looked k a q → q ≡ Ok (kept_at a w)
   code_read_back a w given k back e q look =
       let accepted : answer (after (list_of l)) (write a w) ≡ Ok tt = cc (rehearsed l n h) in
       cc (rehearsed l n h, read_back (list_of l) a w accepted)
 
   -- two reads of another register, before a write and after it
-  pub code_read_other : (a w b : ℕ) → (a ≡ b → ⊥) → follows (decode_of a) (decode_of b) ≡ false →
+  pub code_read_other : (a w b : ℕ) → (a ≡ b → ⊥) → follows_at a b ≡ false →
       (p : Result ℕ Refusal) → Looked n b p → (given : Answer) (k : Machine) → Returned n (write a w) given k →
       (q : Result ℕ Refusal) → Looked k b q → q ≡ p
   code_read_other a w b d f p before given k back q look = cc (rehearsed l n h, read_other (list_of l) a w b d f)

@@ -1,11 +1,12 @@
 -- Demand 1 on one page, to be laid beside document 01's "Causes of refusal": the conditions of each call in the order in which they are
 -- looked at, what each cause returns and what it leaves; then the checks of a record, in theirs.
 use Rattle.std.specs.Prelude.{ℕ, ◌+◌, ◌-◌, ◌*◌, Bool, true, false, not, ◌&&◌, List, [], ◌∷◌, ◌≡◌, eqb, ltb, length, Result, Ok, Err}
+use Rattle.std.specs.Option.{option_map_or}
 use Rattle.bools.specs.Pick.{pick}
 use Rattle.device.specs.declared.answer.Refusal.{Refusal}
 use Rattle.device.specs.declared.answer.Refusal.TheVariants.{Memory, Address, ReadOnly, Dataset, Full, Level, Length}
 use Rattle.device.specs.declared.map.Register.{Register}
-use Rattle.device.specs.declared.map.Register.TheVariants.{Nothing, Readout, Other, Control, Mode, Timeout, Key, Enable, Reload, Prepare, Recover, Input, Group, Word}
+use Rattle.device.specs.declared.map.Register.TheVariants.{Readout, Other, Control, Mode, Timeout, Key, Enable, Reload, Prepare, Recover, Input, Group, Word}
 use Rattle.device.specs.Answer.{Answer, is_done, number_of}
 use Rattle.device.specs.Map.{decode_of}
 use Rattle.device.specs.State.{Machine, with_memory, with_state}
@@ -53,7 +54,6 @@ pub data Access : Type 0 where
   writable : Access
 
 abbrev pub access_of : Register → Access
-access_of Nothing = outside
 access_of (Readout q) = readable
 access_of (Other q) = writable
 access_of Control = writable
@@ -81,7 +81,7 @@ is_read_only readable = true
 is_read_only writable = false
 
 abbrev pub access_at : ℕ → Access
-access_at a = access_of (decode_of a)
+access_at a = option_map_or access_of (decode_of a) outside
 
 -- "A write to 0x0A02 that sets TRIGGER where it was clear makes a request."
 abbrev pub write_asks : Machine → ℕ → ℕ → Bool
@@ -144,7 +144,7 @@ giving (Err cause) x = Err cause
 -- "the number and zeros in the rest of its report"
 unfoldable pub shown_by : Machine → Act → Answer → Seen
 shown_by m (calling x) a = answered a (number_of a)
-shown_by m (reading b) a = told (giving a (word_in m (decode_of b))) (number_of a)
+shown_by m (reading b) a = told (giving a (option_map_or (word_in m) (decode_of b) 0)) (number_of a)
 shown_by m scanning a = scanned (giving a (scan_in m.state)) (number_of a)
 shown_by m (tracing t budget) a = numbered (pick (is_done a) (run_of t budget m).progress.report (report_of MemoryStop 0 0 0 0))
 
@@ -153,7 +153,7 @@ shown_by m (tracing t budget) a = numbered (pick (is_done a) (run_of t budget m)
 -- what an accepted call does
 unfoldable pub work_of : Machine → Act → Machine
 work_of m (calling (tick inputs gates)) = with_state m (tick_of m.state m.memory inputs gates)
-work_of m (calling (write a w)) = write_at m (decode_of a) w
+work_of m (calling (write a w)) = option_map_or (λ (r : Register). write_at m r w) (decode_of a) m
 work_of m (calling (tag t)) = with_state m (tag_of m.state t)
 work_of m (calling (download d words)) = with_memory m (replaced m.memory (dataset_words * d) words)
 work_of m (reading a) = m

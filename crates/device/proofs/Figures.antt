@@ -4,7 +4,7 @@ use mathlib.Core.Bool.{true}
 use mathlib.Core.List.{List, [], ◌∷◌}
 use mathlib.Core.Path.{◌≡◌, refl}
 use Rattle.lists.specs.Checks.{Row, row, right}
-use Rattle.device.specs.declared.map.Register.TheVariants.{Nothing, Readout, Other, Control, Mode, Timeout, Key, Enable, Reload, Prepare, Recover, Input, Group, Word}
+use Rattle.device.specs.declared.map.Register.TheVariants.{Readout, Other, Control, Mode, Timeout, Key, Enable, Reload, Prepare, Recover, Input, Group, Word}
 use Rattle.device.specs.declared.map.Setting.TheVariants.{Mask, WatchdogTimeout, WatchdogReset, Selection}
 use Rattle.device.specs.declared.map.Status.TheVariants.{Module, Negative, Positive, GateErrors, WatchdogErrors, GateInputs, GateOutputs, Outputs}
 use Rattle.device.specs.declared.map.Status.TheVariants.{GateStates, TagLow, TagHigh, Code, LoaderState, LoaderCounter, Count, Raw, Threshold}
@@ -43,7 +43,6 @@ figures =
     ∷ row 12 (used_bits (Other (Selection 0x15)))
     ∷ row 16 (used_bits (Other (Selection 22)))
     -- the others
-    ∷ row 0 (used_bits Nothing)
     ∷ row 2 (used_bits Control)
     ∷ row 12 (used_bits Mode)
     ∷ row 16 (used_bits (Timeout 0))

@@ -1,10 +1,11 @@
 -- The register map: the Manual's sections 3.2.3 to 3.2.14 as document 01, "Writes and event tags", settles them; and the raw counts of
 -- document 02, request 1.
-use Rattle.std.specs.Prelude.{ℕ, ◌+◌, ◌-◌, ◌*◌, ◌/◌, ◌%◌, eqb, ltb}
+use Rattle.std.specs.Prelude.{ℕ, ◌+◌, ◌-◌, ◌*◌, ◌/◌, ◌%◌, Option, Some, None, eqb, ltb}
+use Rattle.std.specs.Option.{option_map_or}
 use Rattle.bools.specs.Pick.{pick}
 use Rattle.words.specs.Word.{lowest}
 use Rattle.device.specs.declared.map.Register.{Register}
-use Rattle.device.specs.declared.map.Register.TheVariants.{Nothing, Readout, Other, Control, Mode, Timeout, Key, Enable, Reload, Prepare, Recover, Input, Group, Word}
+use Rattle.device.specs.declared.map.Register.TheVariants.{Readout, Other, Control, Mode, Timeout, Key, Enable, Reload, Prepare, Recover, Input, Group, Word}
 use Rattle.device.specs.declared.map.Setting.{Setting}
 use Rattle.device.specs.declared.map.Setting.TheVariants.{Mask, WatchdogTimeout, WatchdogReset, Selection}
 use Rattle.device.specs.declared.map.Status.{Status}
@@ -12,7 +13,7 @@ use Rattle.device.specs.declared.map.Status.TheVariants.{Module, Negative, Posit
 use Rattle.device.specs.declared.map.Status.TheVariants.{GateStates, TagLow, TagHigh, Code, LoaderState, LoaderCounter, Count, Raw, Threshold}
 
 -- what stands below an edge, else what the rest of the map says
-abbrev pub below : ℕ → ℕ → Register → Register → Register
+abbrev pub below : ℕ → ℕ → Option Register → Option Register → Option Register
 below a edge here rest = pick (ltb a edge) here rest
 
 -- an output's block is 22 registers "with a raster of 32 addresses"; they are numbered on from output to output
@@ -22,81 +23,81 @@ output_words = 22
 abbrev pub selection_number : ℕ → ℕ → ℕ
 selection_number o k = output_words * o + k
 
-abbrev pub output_block : ℕ → Register
-output_block k = pick (ltb (k % 32) output_words) (Other (Selection (selection_number (k / 32) (k % 32)))) Nothing
+abbrev pub output_block : ℕ → Option Register
+output_block k = pick (ltb (k % 32) output_words) (Some (Other (Selection (selection_number (k / 32) (k % 32))))) None
 
 -- The map in address order, a superblock or two to a page. A row is the first address past it and what stands up to there; gaps are
 -- rows of their own: "an address at which they name no register, or one not modelled, is not in it". A Readout is read-only;
--- what is neither that nor Nothing is read and write.
+-- any other register is read and write.
 
 -- for addresses up to 0x06FF
-unfoldable pub backplane_map : ℕ → Register
+unfoldable pub backplane_map : ℕ → Option Register
 backplane_map a =
-    below a 0x0630 Nothing
-    (below a 0x0636 (Other (Mask (a - 0x0630)))  -- IOBP_MASK BP_MASK0-1 to BP_MASK10-11
-    (below a 0x0638 Nothing
-    (below a 0x063E (Readout (Module (a - 0x0638)))  -- IOBP_ID BP_ID0-1 to BP_ID10-11
-    Nothing)))
+    below a 0x0630 None
+    (below a 0x0636 (Some (Other (Mask (a - 0x0630))))  -- IOBP_MASK BP_MASK0-1 to BP_MASK10-11
+    (below a 0x0638 None
+    (below a 0x063E (Some (Readout (Module (a - 0x0638))))  -- IOBP_ID BP_ID0-1 to BP_ID10-11
+    None)))
 
 -- for 0x0700 to 0x07FF; 0x071D IO_CTRL_STATE is not modelled
-unfoldable pub status_map : ℕ → Register
+unfoldable pub status_map : ℕ → Option Register
 status_map a =
-    below a 0x0708 (Readout (Negative (a - 0x0700)))  -- STATUS NEG_OVERFLOW
-    (below a 0x0710 (Readout (Positive (a - 0x0708)))  -- STATUS POS_OVERFLOW
-    (below a 0x0711 (Readout GateErrors)  -- STATUS GATE_ERROR
-    (below a 0x0715 (Readout (WatchdogErrors (a - 0x0711)))  -- STATUS WD_ERROR
-    (below a 0x0717 Nothing
-    (below a 0x0718 (Readout GateInputs)  -- STATUS GATE_IN
-    (below a 0x0719 (Readout GateOutputs)  -- STATUS GATE_OUT
-    (below a 0x071A (Readout Outputs)  -- STATUS OUT_SIGNAL
-    (below a 0x071D (Readout (GateStates (a - 0x071A)))  -- STATUS GATE_STATE
-    Nothing))))))))
+    below a 0x0708 (Some (Readout (Negative (a - 0x0700))))  -- STATUS NEG_OVERFLOW
+    (below a 0x0710 (Some (Readout (Positive (a - 0x0708))))  -- STATUS POS_OVERFLOW
+    (below a 0x0711 (Some (Readout GateErrors))  -- STATUS GATE_ERROR
+    (below a 0x0715 (Some (Readout (WatchdogErrors (a - 0x0711))))  -- STATUS WD_ERROR
+    (below a 0x0717 None
+    (below a 0x0718 (Some (Readout GateInputs))  -- STATUS GATE_IN
+    (below a 0x0719 (Some (Readout GateOutputs))  -- STATUS GATE_OUT
+    (below a 0x071A (Some (Readout Outputs))  -- STATUS OUT_SIGNAL
+    (below a 0x071D (Some (Readout (GateStates (a - 0x071A))))  -- STATUS GATE_STATE
+    None))))))))
 
 -- for 0x0800 to 0x08FF
-unfoldable pub control_map : ℕ → Register
+unfoldable pub control_map : ℕ → Option Register
 control_map a =
-    below a 0x0801 (Other WatchdogTimeout)  -- CTRL WDOG_TIMEOUT
-    (below a 0x0802 Control  -- CTRL COUNTERS
-    (below a 0x0803 Mode  -- CTRL GATE_MODE
-    (below a 0x0804 Nothing
-    (below a 0x0810 (Timeout (a - 0x0804))  -- CTRL GATE_TIMEOUT
-    (below a 0x0814 (Other (WatchdogReset (a - 0x0810)))  -- CTRL WD_RESET
-    Nothing)))))
+    below a 0x0801 (Some (Other WatchdogTimeout))  -- CTRL WDOG_TIMEOUT
+    (below a 0x0802 (Some Control)  -- CTRL COUNTERS
+    (below a 0x0803 (Some Mode)  -- CTRL GATE_MODE
+    (below a 0x0804 None
+    (below a 0x0810 (Some (Timeout (a - 0x0804)))  -- CTRL GATE_TIMEOUT
+    (below a 0x0814 (Some (Other (WatchdogReset (a - 0x0810))))  -- CTRL WD_RESET
+    None)))))
 
 -- for 0x0900 to 0x0FFF; 0x0905 THR_LOADER_ENQ_STATE is not modelled
-unfoldable pub event_map : ℕ → Register
+unfoldable pub event_map : ℕ → Option Register
 event_map a =
-    below a 0x0901 (Readout TagLow)  -- EVT_STATUS TAG_LOW
-    (below a 0x0902 (Readout TagHigh)  -- EVT_STATUS TAG_HIGH
-    (below a 0x0903 (Readout Code)  -- EVT_STATUS CODE
-    (below a 0x0904 (Readout LoaderState)  -- EVT_STATUS THR_LOADER_STATE
-    (below a 0x0905 (Readout LoaderCounter)  -- EVT_STATUS THR_LOADER_ITER
-    (below a 0x0A00 Nothing
-    (below a 0x0A01 Key  -- EVT_CTRL KEY
-    (below a 0x0A02 Enable  -- EVT_CTRL CTRL
-    (below a 0x0A03 Reload  -- EVT_CTRL THR_RELOAD
-    (below a 0x0A04 Prepare  -- EVT_CTRL GATE_PREP
-    (below a 0x0A05 Recover  -- EVT_CTRL GATE_RECOVER
-    Nothing))))))))))
+    below a 0x0901 (Some (Readout TagLow))  -- EVT_STATUS TAG_LOW
+    (below a 0x0902 (Some (Readout TagHigh))  -- EVT_STATUS TAG_HIGH
+    (below a 0x0903 (Some (Readout Code))  -- EVT_STATUS CODE
+    (below a 0x0904 (Some (Readout LoaderState))  -- EVT_STATUS THR_LOADER_STATE
+    (below a 0x0905 (Some (Readout LoaderCounter))  -- EVT_STATUS THR_LOADER_ITER
+    (below a 0x0A00 None
+    (below a 0x0A01 (Some Key)  -- EVT_CTRL KEY
+    (below a 0x0A02 (Some Enable)  -- EVT_CTRL CTRL
+    (below a 0x0A03 (Some Reload)  -- EVT_CTRL THR_RELOAD
+    (below a 0x0A04 (Some Prepare)  -- EVT_CTRL GATE_PREP
+    (below a 0x0A05 (Some Recover)  -- EVT_CTRL GATE_RECOVER
+    None))))))))))
 
 -- for 0x1000 on
-unfoldable pub counter_map : ℕ → Register
+unfoldable pub counter_map : ℕ → Option Register
 counter_map a =
-    below a 0x1080 (Input (a - 0x1000))  -- IN_SEL
-    (below a 0x1100 Nothing
+    below a 0x1080 (Some (Input (a - 0x1000)))  -- IN_SEL
+    (below a 0x1100 None
     (below a 0x11C0 (output_block (a - 0x1100))  -- OUT_SEL
-    (below a 0x1200 Nothing
-    (below a 0x1300 (Readout (Count (a - 0x1200)))  -- CTR_READOUT
-    (below a 0x136C (Readout (Raw (a - 0x1300)))  -- raw counts: 0x1300 + 2 × input, "low word first"
-    (below a 0x1600 Nothing
-    (below a 0x1620 (Group (a - 0x1600))  -- CTR_GROUPS
-    (below a 0x1800 Nothing
-    (below a 0x1A00 (Readout (Threshold (a - 0x1800)))  -- THR
-    (below a 0x8000 Nothing
-    (below a 0xC000 (Word (a - 0x8000))  -- THR_RAM
-    Nothing)))))))))))
+    (below a 0x1200 None
+    (below a 0x1300 (Some (Readout (Count (a - 0x1200))))  -- CTR_READOUT
+    (below a 0x136C (Some (Readout (Raw (a - 0x1300))))  -- raw counts: 0x1300 + 2 × input, "low word first"
+    (below a 0x1600 None
+    (below a 0x1620 (Some (Group (a - 0x1600)))  -- CTR_GROUPS
+    (below a 0x1800 None
+    (below a 0x1A00 (Some (Readout (Threshold (a - 0x1800))))  -- THR
+    (below a 0x8000 None
+    (below a 0xC000 (Some (Word (a - 0x8000)))  -- THR_RAM
+    None)))))))))))
 
-unfoldable pub decode_of : ℕ → Register
+unfoldable pub decode_of : ℕ → Option Register
 decode_of a =
     below a 0x0700 (backplane_map a)
     (below a 0x0800 (status_map a)
@@ -135,7 +136,6 @@ setting_bits (WatchdogReset k) = pick (eqb k 3) 6 16
 setting_bits (Selection j) = selection_bits (j % output_words)
 
 abbrev pub used_bits : Register → ℕ
-used_bits Nothing = 0
 used_bits (Readout r) = status_bits r
 used_bits (Other r) = setting_bits r
 used_bits Control = 2
@@ -153,3 +153,7 @@ used_bits (Word i) = 16
 -- "Unused bits are dropped"
 unfoldable pub kept : Register → ℕ → ℕ
 kept r w = lowest (used_bits r) w
+
+-- the same of what stands at an address: where there is no register, no bit is used
+abbrev pub kept_at : ℕ → ℕ → ℕ
+kept_at a w = option_map_or (λ (r : Register). kept r w) (decode_of a) 0

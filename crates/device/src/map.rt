@@ -4,7 +4,6 @@ ghost use Rattle.device.specs.Map.{output_block, backplane_map, status_map, cont
 
 #[derive(Clone, Copy)]
 pub enum Register {
-    Nothing,
     // read-only registers
     Readout(Status),
     // registers that are in no counter's sheet
@@ -55,19 +54,19 @@ pub enum Setting {
 
 // Addresses up to 0x06FF.
 #[tactic(auto, using(bools::proofs::Tests::tests), unfolding(crate::specs::Map::backplane_map))]
-fn backplane_map(a: u16) -> Register
+fn backplane_map(a: u16) -> Option<Register>
     ensures { result ≡ backplane_map a }
 {
     match a {
-        0x0630..=0x0635 => Register::Other(Setting::Mask(a - 0x0630)),
-        0x0638..=0x063D => Register::Readout(Status::Module(a - 0x0638)),
-        _ => Register::Nothing,
+        0x0630..=0x0635 => Some(Register::Other(Setting::Mask(a - 0x0630))),
+        0x0638..=0x063D => Some(Register::Readout(Status::Module(a - 0x0638))),
+        _ => None,
     }
 }
 
 // 0x0700 to 0x07FF.
 #[tactic(auto, using(bools::proofs::Tests::tests), unfolding(crate::specs::Map::status_map))]
-fn status_map(a: u16) -> Register
+fn status_map(a: u16) -> Option<Register>
     requires { 0x0700 ≤ a }
     ensures { result ≡ status_map a }
 {
@@ -80,80 +79,80 @@ fn status_map(a: u16) -> Register
         0x0718 => Status::GateOutputs,
         0x0719 => Status::Outputs,
         0x071A..=0x071C => Status::GateStates(a - 0x071A),
-        _ => return Register::Nothing,
+        _ => return None,
     };
-    Register::Readout(status)
+    Some(Register::Readout(status))
 }
 
 // 0x0800 to 0x08FF.
 #[tactic(auto, using(bools::proofs::Tests::tests), unfolding(crate::specs::Map::control_map))]
-fn control_map(a: u16) -> Register
+fn control_map(a: u16) -> Option<Register>
     requires { 0x0800 ≤ a }
     ensures { result ≡ control_map a }
 {
     match a {
-        0x0800 => Register::Other(Setting::WatchdogTimeout),
-        0x0801 => Register::Control,
-        0x0802 => Register::Mode,
-        0x0804..=0x080F => Register::Timeout(a - 0x0804),
-        0x0810..=0x0813 => Register::Other(Setting::WatchdogReset(a - 0x0810)),
-        _ => Register::Nothing,
+        0x0800 => Some(Register::Other(Setting::WatchdogTimeout)),
+        0x0801 => Some(Register::Control),
+        0x0802 => Some(Register::Mode),
+        0x0804..=0x080F => Some(Register::Timeout(a - 0x0804)),
+        0x0810..=0x0813 => Some(Register::Other(Setting::WatchdogReset(a - 0x0810))),
+        _ => None,
     }
 }
 
 // 0x0900 to 0x0FFF.
 #[tactic(auto, using(bools::proofs::Tests::tests), unfolding(crate::specs::Map::event_map))]
-fn event_map(a: u16) -> Register
+fn event_map(a: u16) -> Option<Register>
     requires { 0x0900 ≤ a }
     ensures { result ≡ event_map a }
 {
     match a {
-        0x0900 => Register::Readout(Status::TagLow),
-        0x0901 => Register::Readout(Status::TagHigh),
-        0x0902 => Register::Readout(Status::Code),
-        0x0903 => Register::Readout(Status::LoaderState),
-        0x0904 => Register::Readout(Status::LoaderCounter),
-        0x0A00 => Register::Key,
-        0x0A01 => Register::Enable,
-        0x0A02 => Register::Reload,
-        0x0A03 => Register::Prepare,
-        0x0A04 => Register::Recover,
-        _ => Register::Nothing,
+        0x0900 => Some(Register::Readout(Status::TagLow)),
+        0x0901 => Some(Register::Readout(Status::TagHigh)),
+        0x0902 => Some(Register::Readout(Status::Code)),
+        0x0903 => Some(Register::Readout(Status::LoaderState)),
+        0x0904 => Some(Register::Readout(Status::LoaderCounter)),
+        0x0A00 => Some(Register::Key),
+        0x0A01 => Some(Register::Enable),
+        0x0A02 => Some(Register::Reload),
+        0x0A03 => Some(Register::Prepare),
+        0x0A04 => Some(Register::Recover),
+        _ => None,
     }
 }
 
 // An output's block, k addresses from 0x1100.
 #[tactic(auto, using(bools::proofs::Tests::tests))]
-fn output_block(k: u16) -> Register
+fn output_block(k: u16) -> Option<Register>
     ensures { result ≡ output_block k }
 {
     if k % 32 < 22 {
-        return Register::Other(Setting::Selection(22 * (k / 32) + k % 32));
+        return Some(Register::Other(Setting::Selection(22 * (k / 32) + k % 32)));
     }
-    Register::Nothing
+    None
 }
 
 // 0x1000 on.
 #[tactic(auto, using(bools::proofs::Tests::tests), unfolding(crate::specs::Map::counter_map))]
-fn counter_map(a: u16) -> Register
+fn counter_map(a: u16) -> Option<Register>
     requires { 0x1000 ≤ a }
     ensures { result ≡ counter_map a }
 {
     match a {
-        0x1000..=0x107F => Register::Input(a - 0x1000),
+        0x1000..=0x107F => Some(Register::Input(a - 0x1000)),
         0x1100..=0x11BF => output_block(a - 0x1100),
-        0x1200..=0x12FF => Register::Readout(Status::Count(a - 0x1200)),
-        0x1300..=0x136B => Register::Readout(Status::Raw(a - 0x1300)),
-        0x1600..=0x161F => Register::Group(a - 0x1600),
-        0x1800..=0x19FF => Register::Readout(Status::Threshold(a - 0x1800)),
-        0x8000..=0xBFFF => Register::Word(a - 0x8000),
-        _ => Register::Nothing,
+        0x1200..=0x12FF => Some(Register::Readout(Status::Count(a - 0x1200))),
+        0x1300..=0x136B => Some(Register::Readout(Status::Raw(a - 0x1300))),
+        0x1600..=0x161F => Some(Register::Group(a - 0x1600)),
+        0x1800..=0x19FF => Some(Register::Readout(Status::Threshold(a - 0x1800))),
+        0x8000..=0xBFFF => Some(Register::Word(a - 0x8000)),
+        _ => None,
     }
 }
 
 // What stands at an address.
 #[tactic(auto, using(bools::proofs::Tests::tests), unfolding(crate::specs::Map::decode_of))]
-pub fn decode(a: u16) -> Register
+pub fn decode(a: u16) -> Option<Register>
     ensures { result ≡ decode_of a }
 {
     match a {

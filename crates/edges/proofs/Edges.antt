@@ -5,13 +5,14 @@ use Prim.Native.Nat.{ℕ, zero, suc, ◌+◌, ◌-◌, ◌*◌, ◌/◌, ◌%◌
 use mathlib.Core.List.{List, [], ◌∷◌, ◌++◌}
 use lib.Dec.{eqb, ltb}
 use lib.ListN.{get_or, length, replicate}
-use Rattle.std.proofs.Common.{Ok, Err}
+use Rattle.std.proofs.Common.{Ok, Err, Option}
+use Rattle.std.specs.Option.{option_map_or}
 use Rattle.bools.specs.Pick.{pick}
 use Rattle.words.specs.Word.{bit_of}
 use Rattle.lists.specs.Checks.{Row, row}
 use Rattle.lists.specs.Table.{tabulate}
 use Rattle.device.specs.declared.map.Register.{Register}
-use Rattle.device.specs.declared.map.Register.TheVariants.{Nothing, Readout, Other, Control, Mode, Timeout, Key, Enable, Reload, Prepare, Recover, Input, Group, Word}
+use Rattle.device.specs.declared.map.Register.TheVariants.{Readout, Other, Control, Mode, Timeout, Key, Enable, Reload, Prepare, Recover, Input, Group, Word}
 use Rattle.device.specs.declared.map.Setting.{Setting}
 use Rattle.device.specs.declared.map.Setting.TheVariants.{Mask, WatchdogTimeout, WatchdogReset, Selection}
 use Rattle.device.specs.declared.map.Status.{Status}
@@ -270,7 +271,6 @@ setting_address (WatchdogReset k) = in_block 0x0810 4 k  -- WD_RESET
 setting_address (Selection j) = pick (ltb j 132) (0x1100 + 32 * (j / 22) + j % 22) 0  -- OUT_SEL
 
 abbrev pub address_of : Register → ℕ
-address_of Nothing = 0
 address_of (Readout r) = status_address r
 address_of (Other r) = setting_address r
 address_of Control = 0x0801  -- COUNTERS
@@ -285,22 +285,25 @@ address_of (Input n) = in_block 0x1000 128 n  -- IN_SEL
 address_of (Group k) = in_block 0x1600 32 k  -- CTR_GROUPS
 address_of (Word i) = in_block 0x8000 16_384 i  -- THR_RAM
 
+abbrev pub named : Option Register → ℕ
+named o = option_map_or address_of o 0
+
 -- how many of the addresses below n have the register that the Manual puts there
 abbrev pub placed : ℕ → ℕ → ℕ
 placed zero sum = sum
-placed (suc n) sum = placed n (sum + bit_of (ltb 0 n) * bit_of (eqb (address_of (decode_of n)) n))
+placed (suc n) sum = placed n (sum + bit_of (ltb 0 n) * bit_of (eqb (named (decode_of n)) n))
 
 -- the words of all registers below address n at power-up, added up
 abbrev pub summed : ℕ → ℕ → ℕ
 summed zero sum = sum
-summed (suc n) sum = summed n (sum + word_in machine0 (decode_of n))
+summed (suc n) sum = summed n (sum + option_map_or (word_in machine0) (decode_of n) 0)
 
 unfoldable pub map_rows : List Row
 map_rows =
     -- the 1,236 registers below the threshold memory, each at its own address; the memory's ends
     row 1236 (placed 0x1A00 0)
-    ∷ row 0x8000 (address_of (decode_of 0x8000))
-    ∷ row 0xBFFF (address_of (decode_of 0xBFFF))
+    ∷ row 0x8000 (named (decode_of 0x8000))
+    ∷ row 0xBFFF (named (decode_of 0xBFFF))
     ∷ []
 
 unfoldable pub power_up_rows : List Row

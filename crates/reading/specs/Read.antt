@@ -1,5 +1,6 @@
 -- Document 01, "Writes and event tags", and the Manual's register tables: the word that a read gives.
 use Rattle.std.specs.Prelude.{ℕ, ◌+◌, ◌*◌, ◌/◌, ◌%◌, eqb, ltb, ℤ, get_or, Result, Ok, Err}
+use Rattle.std.specs.Option.{option_map_or}
 use Rattle.bools.specs.Pick.{pick}
 use Rattle.numbers.specs.Signed.{word_of}
 use Rattle.words.specs.Word.{fields}
@@ -13,14 +14,13 @@ use Rattle.watchdogs.specs.Watchdog.{error_of, reset_of, watchdog_word}
 use Rattle.device.specs.declared.answer.Refusal.{Refusal}
 use Rattle.device.specs.declared.answer.Refusal.TheVariants.{Memory, Address}
 use Rattle.device.specs.declared.map.Register.{Register}
-use Rattle.device.specs.declared.map.Register.TheVariants.{Nothing, Readout, Other, Control, Mode, Timeout, Key, Enable, Reload, Prepare, Recover, Input, Group, Word}
+use Rattle.device.specs.declared.map.Register.TheVariants.{Readout, Other, Control, Mode, Timeout, Key, Enable, Reload, Prepare, Recover, Input, Group, Word}
 use Rattle.device.specs.declared.map.Setting.{Setting}
 use Rattle.device.specs.declared.map.Setting.TheVariants.{Mask, WatchdogTimeout, WatchdogReset, Selection}
 use Rattle.device.specs.declared.map.Status.{Status}
 use Rattle.device.specs.declared.map.Status.TheVariants.{Module, Negative, Positive, GateErrors, WatchdogErrors, GateInputs, GateOutputs, Outputs}
 use Rattle.device.specs.declared.map.Status.TheVariants.{GateStates, TagLow, TagHigh, Code, LoaderState, LoaderCounter, Count, Raw, Threshold}
 use Rattle.device.specs.declared.state.Crate.{Crate}
-use Rattle.device.specs.Answer.{Answer}
 use Rattle.interlocks.specs.Interlock.{interlocks}
 use Rattle.device.specs.Map.{decode_of}
 use Rattle.device.specs.State.{Machine}
@@ -70,7 +70,6 @@ setting_word s (WatchdogReset k) = watchdog_word reset_of s.rest.watchdogs k
 setting_word s (Selection j) = get_or s.rest.selections j 0
 
 unfoldable pub word_in : Machine → Register → ℕ
-word_in m Nothing = 0
 word_in m (Readout r) = status_word m.state r
 word_in m (Other r) = setting_word m.state r
 word_in m Control = m.state.common.control
@@ -85,30 +84,10 @@ word_in m (Input n) = (counter_at m.state.counters n).input
 word_in m (Group k) = get_or m.state.groups k 0
 word_in m (Word i) = word_at m.memory i
 
-abbrev pub answer_for : Register → Answer
-answer_for Nothing = Err Address
-answer_for (Readout r) = Ok tt
-answer_for (Other r) = Ok tt
-answer_for Control = Ok tt
-answer_for Mode = Ok tt
-answer_for (Timeout g) = Ok tt
-answer_for Key = Ok tt
-answer_for Enable = Ok tt
-answer_for Reload = Ok tt
-answer_for Prepare = Ok tt
-answer_for Recover = Ok tt
-answer_for (Input n) = Ok tt
-answer_for (Group k) = Ok tt
-answer_for (Word i) = Ok tt
-
--- a register that is there is read as a word
-abbrev pub with_word : Answer → ℕ → Result ℕ Refusal
-with_word (Ok _) w = Ok w
-with_word (Err cause) w = Err cause
-
 -- a read: cause 1, then 2
 unfoldable pub read_of : Machine → ℕ → Result ℕ Refusal
-read_of m a = pick (is_whole m.memory) (with_word (answer_for (decode_of a)) (word_in m (decode_of a))) (Err Memory)
+read_of m a =
+    pick (is_whole m.memory) (option_map_or (λ (r : Register). Ok (word_in m r)) (decode_of a) (Err Address)) (Err Memory)
 
 -- the word that is shown of a read: 0 of a refused one
 abbrev pub word_shown : Result ℕ Refusal → ℕ

@@ -3,4 +3,4 @@
 
 mod reading;
 
-pub use reading::{answer_for, word_in};
+pub use reading::word_in;

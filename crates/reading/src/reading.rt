@@ -5,11 +5,11 @@ ghost use Rattle.counters.specs.Counter.{counter_at, is_out, overflow_word};
 ghost use Rattle.gates.specs.Gate.{gate_at, state_word};
 ghost use Rattle.loader.specs.Loader.{busy};
 ghost use Rattle.watchdogs.specs.Watchdog.{flag_of, watchdog_word};
-ghost use Rattle.reading.specs.Read.{module_id, module_word, low_first, half_of, threshold_of, status_word, setting_word, word_in, answer_for};
+ghost use Rattle.reading.specs.Read.{module_id, module_word, low_first, half_of, threshold_of, status_word, setting_word, word_in};
 ghost use Rattle.device.specs.State.{machine};
 
 use counters::Counter;
-use device::{Crate, Refusal, Register, Setting, Status};
+use device::{Crate, Register, Setting, Status};
 use gates::Gate;
 use loader::Reload;
 use watchdogs::Watchdog;
@@ -181,7 +181,6 @@ pub fn word_in(s: &Crate, mem: &[u16; 16384], r: Register) -> u16
     ensures { result ≡ word_in (machine s.now mem.now) r }
 {
     match r {
-        Register::Nothing => 0,
         Register::Readout(status) => status_word(s, status),
         Register::Other(setting) => setting_word(s, setting),
         Register::Control => s.common.control,
@@ -195,15 +194,5 @@ pub fn word_in(s: &Crate, mem: &[u16; 16384], r: Register) -> u16
         Register::Input(n) => counter_at(&s.counters, n).input,
         Register::Group(k) => at(&s.groups, k),
         Register::Word(i) => at(mem, i),
-    }
-}
-
-// Accepted, or that there is no register.
-pub fn answer_for(r: Register) -> Result<(), Refusal>
-    ensures { result ≡ answer_for r }
-{
-    match r {
-        Register::Nothing => Err(Refusal::Address),
-        _ => Ok(()),
     }
 }

@@ -6,7 +6,7 @@ use mathlib.Core.Bool.{Bool}
 use mathlib.Core.Path.{◌≡◌, ap, ◌∙◌}
 use borrow.Author.Tests.{eq-eqb, le-ltb, lt-ltb}
 use lib.ListN.{length}
-use Rattle.std.specs.Prelude.{Ok}
+use Rattle.std.specs.Prelude.{Ok, Some}
 use Rattle.words.specs.Word.{bit}
 use Rattle.words.proofs.Packing.{bit_pack}
 use Rattle.counters.specs.declared.counter.Counter.{Counter}
@@ -18,13 +18,13 @@ use Rattle.device.specs.Map.{decode_of, status_map}
 use Rattle.reading.specs.Read.{read_of, status_word, word_in, word_shown}
 use Rattle.device.specs.State.{Machine}
 
-decode_negative : (k : ℕ) → k < 8 → decode_of (0x0700 + k) ≡ Readout (Negative k)
+decode_negative : (k : ℕ) → k < 8 → decode_of (0x0700 + k) ≡ Some (Readout (Negative k))
 unfolding decode_of status_map
 decode_negative k h =
     let e : 0x0700 + k - 0x0700 ≡ k = omega arith in
     rw (le-ltb (0x0700 + k) 0x0700 (omega arith), lt-ltb (0x0700 + k) 0x0800 (omega arith), lt-ltb (0x0700 + k) 0x0708 (omega arith), e)
 
-decode_positive : (k : ℕ) → k < 8 → decode_of (0x0708 + k) ≡ Readout (Positive k)
+decode_positive : (k : ℕ) → k < 8 → decode_of (0x0708 + k) ≡ Some (Readout (Positive k))
 unfolding decode_of status_map
 decode_positive k h =
     let e : 0x0708 + k - 0x0708 ≡ k = omega arith in

@@ -3,9 +3,12 @@ use Prim.Native.Nat.{ℕ}
 use mathlib.Core.Bool.{true, false, true≢false}
 use mathlib.Core.Path.{◌≡◌, refl, ap}
 use lib.Dec.{eqb}
+use Rattle.std.proofs.Common.{Err, Option, Some, None}
+use Rattle.std.specs.Option.{option_map_or}
 use Rattle.bools.proofs.Tests.{cases}
+use Rattle.device.specs.declared.answer.Refusal.TheVariants.{Address}
 use Rattle.device.specs.declared.map.Register.{Register}
-use Rattle.device.specs.declared.map.Register.TheVariants.{Nothing, Readout, Other, Control, Mode, Timeout, Key, Enable, Reload, Prepare, Recover, Input, Group, Word}
+use Rattle.device.specs.declared.map.Register.TheVariants.{Readout, Other, Control, Mode, Timeout, Key, Enable, Reload, Prepare, Recover, Input, Group, Word}
 use Rattle.device.specs.Answer.{is_done}
 use Rattle.loader.specs.Memory.{is_whole}
 use Rattle.registers.specs.Calls.{Call, tick, write, tag, download, answer, call_answer, called, left_by_refusal, step}
@@ -17,7 +20,6 @@ use Rattle.writing.specs.Write.{reload_write, write_answer, write_at}
 
 refused_write : (m : Machine) (r : Register) (w : ℕ) → is_done (write_answer m.state.common r w) ≡ false → write_at m r w ≡ m
 unfolding write_answer write_at reload_write
-refused_write m Nothing w e = refl
 refused_write m (Readout r) w e = refl
 refused_write m (Other r) w e = absurd (true≢false e)
 refused_write m Control w e = absurd (true≢false e)
@@ -49,7 +51,12 @@ refused_call : (m : Machine) (x : Call) → is_whole m.memory ≡ true → is_do
 unfolding call_answer called left_by_refusal
 refused_call m (tick inputs gates) h e =
     cases (bad_levels inputs gates) (λ b. rw b refl) (λ b. absurd (true≢false (rw b at e)))
-refused_call m (write a w) h e = refused_write m (decode_of a) w e
+refused_call m (write a w) h e = by (decode_of a) e
+  where
+    by : (o : Option Register) → is_done (option_map_or (λ (r : Register). write_answer m.state.common r w) o (Err Address)) ≡ false →
+        option_map_or (λ (r : Register). write_at m r w) o m ≡ m
+    by None e = refl
+    by (Some r) e = refused_write m r w e
 refused_call m (tag t) h e = rw h (ap (with_state m) (refused_tag m t e))
 refused_call m (download d words) h e = rw e refl
 

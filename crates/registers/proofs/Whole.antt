@@ -11,11 +11,12 @@ use Rattle.bools.proofs.Tests.{both, cases, pick_elim}
 use Rattle.lists.proofs.Splice.{length_spliced}
 use Rattle.loader.specs.Memory.{replaced}
 use Rattle.device.specs.declared.map.Register.{Register}
-use Rattle.device.specs.declared.map.Register.TheVariants.{Nothing, Readout, Other, Control, Mode, Timeout, Key, Enable, Reload, Prepare, Recover, Input, Group, Word}
+use Rattle.device.specs.declared.map.Register.TheVariants.{Readout, Other, Control, Mode, Timeout, Key, Enable, Reload, Prepare, Recover, Input, Group, Word}
 use Rattle.device.specs.Answer.{is_done}
 use Rattle.loader.specs.Memory.{is_whole}
 use Rattle.registers.specs.Calls.{Call, tick, write, tag, download, called, download_answer, step}
 use Rattle.device.specs.Map.{decode_of}
+use Rattle.device.proofs.Found.{found}
 use Rattle.device.specs.State.{Machine}
 use Rattle.lines.specs.Lines.{bad_levels}
 use Rattle.writing.specs.Write.{write_at}
@@ -39,7 +40,6 @@ Full m = length m.memory ≡ 16384
 
 full_write : (m : Machine) → Full m → (r : Register) (w : ℕ) → Full (write_at m r w)
 unfolding write_at
-full_write m h Nothing w = h
 full_write m h (Readout r) w = h
 full_write m h (Other r) w = h
 full_write m h Control w = h
@@ -57,7 +57,7 @@ full_write m h (Word i) w = length-set m.memory i _ ∙ h
 full_called : (m : Machine) → Full m → (x : Call) → Full (called m x)
 unfolding called
 full_called m h (tick inputs gates) = both Full (bad_levels inputs gates) h h
-full_called m h (write a w) = full_write m h (decode_of a) w
+full_called m h (write a w) = found Full (λ r. write_at m r w) m h (λ r. full_write m h r w) (decode_of a)
 full_called m h (tag t) = h
 full_called m h (download d words) =
     pick_elim Full (is_done (download_answer d (length words))) (λ e. length_replaced m.memory d words h e) (λ e. h)

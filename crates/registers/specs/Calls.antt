@@ -1,10 +1,12 @@
 -- Document 01, "The one-counter sheet": lists of calls on one crate and one memory, and "Causes of refusal" of each call.
 use Rattle.std.specs.Prelude.{ℕ, ◌+◌, ◌*◌, Bool, not, List, [], ◌∷◌, eqb, length, Ok, Err}
+use Rattle.std.specs.Option.{option_map_or}
 use Rattle.bools.specs.Pick.{pick}
 use Rattle.words.specs.Word.{bit_of}
 use Rattle.loader.specs.Loader.{is_beyond}
 use Rattle.loader.specs.Memory.{dataset_words, is_whole, replaced}
-use Rattle.device.specs.declared.answer.Refusal.TheVariants.{Memory, Dataset, Level, Length}
+use Rattle.device.specs.declared.answer.Refusal.TheVariants.{Memory, Address, Dataset, Level, Length}
+use Rattle.device.specs.declared.map.Register.{Register}
 use Rattle.device.specs.declared.state.Crate.{Crate}
 use Rattle.device.specs.Answer.{Answer, is_done}
 use Rattle.device.specs.Map.{decode_of}
@@ -28,16 +30,16 @@ tick_answer inputs gates = pick (bad_levels inputs gates) (Err Level) (Ok tt)
 unfoldable pub download_answer : ℕ → ℕ → Answer
 download_answer d size = pick (eqb size dataset_words) (pick (is_beyond d) (Err Dataset) (Ok tt)) (Err Length)
 
--- what a call answers and leaves once the memory has its 16,384 words
+-- what a call answers and leaves once the memory has its 16,384 words; a write where there is no register is refused 2
 unfoldable pub call_answer : Machine → Call → Answer
 call_answer m (tick inputs gates) = tick_answer inputs gates
-call_answer m (write a w) = write_answer m.state.common (decode_of a) w
+call_answer m (write a w) = option_map_or (λ (r : Register). write_answer m.state.common r w) (decode_of a) (Err Address)
 call_answer m (tag t) = tag_answer m.state.common t
 call_answer m (download d words) = download_answer d (length words)
 
 unfoldable pub called : Machine → Call → Machine
 called m (tick inputs gates) = pick (bad_levels inputs gates) m (with_state m (tick_of m.state m.memory inputs gates))
-called m (write a w) = write_at m (decode_of a) w
+called m (write a w) = option_map_or (λ (r : Register). write_at m r w) (decode_of a) m
 called m (tag t) = with_state m (tag_of m.state t)
 called m (download d words) =
     pick (is_done (download_answer d (length words))) (with_memory m (replaced m.memory (dataset_words * d) words)) m

@@ -81,8 +81,7 @@ pub fn read(state: &Crate, mem: &[u16], address: u16) -> Result<u16, Refusal>
 {
     let register = device::decode(address);
     let mem = mem.as_array().ok_or(Refusal::Memory)?;
-    reading::answer_for(register)?;
-    Ok(reading::word_in(state, mem, register))
+    Ok(reading::word_in(state, mem, register.ok_or(Refusal::Address)?))
 }
 
 // A scan of the six outputs: levels and words read.
@@ -103,7 +102,8 @@ pub fn write(state: &mut Crate, mem: &mut [u16], address: u16, word: u16) -> Res
     ensures { (result ≡ answer (machine state.old mem.old) (call_write address word)) × (machine state.new mem.new ≡ step (machine state.old mem.old) (call_write address word)) }
 {
     let mem = mem.as_mut_array().ok_or(Refusal::Memory)?;
-    writing::write_at(state, mem, device::decode(address), word)
+    let register = device::decode(address).ok_or(Refusal::Address)?;
+    writing::write_at(state, mem, register, word)
 }
 
 // An event tag.

@@ -1,16 +1,20 @@
 -- Each register of the map has one address: so two addresses of the map name two registers.
-use Prim.Native.Nat.{ℕ, ◌+◌, ◌*◌, ◌/◌, ◌%◌, ◌<◌, ◌≤◌}
+use Prim.Native.Nat.{ℕ, ◌+◌, ◌-◌, ◌*◌, ◌/◌, ◌%◌, ◌<◌, ◌≤◌}
 use native.Mathlib.Omega.{arith}
-use mathlib.Core.Path.{◌≡◌, refl, sym, ap, ◌∙◌}
+use mathlib.Core.Path.{◌≡◌, refl, sym, subst, ◌∙◌}
+use borrow.Author.Tests.{ltb-false, ltb-true}
+use lib.Dec.{ltb}
 use Rattle.std.proofs.lemmas.Bool.Decides.{nat_tests}
+use Rattle.std.proofs.Common.{Option, Some, None}
+use Rattle.bools.proofs.Tests.{pick_elim}
 use Rattle.device.specs.declared.map.Register.{Register}
-use Rattle.device.specs.declared.map.Register.TheVariants.{Nothing, Readout, Other, Control, Mode, Timeout, Key, Enable, Reload, Prepare, Recover, Input, Group, Word}
+use Rattle.device.specs.declared.map.Register.TheVariants.{Readout, Other, Control, Mode, Timeout, Key, Enable, Reload, Prepare, Recover, Input, Group, Word}
 use Rattle.device.specs.declared.map.Setting.{Setting}
 use Rattle.device.specs.declared.map.Setting.TheVariants.{Mask, WatchdogTimeout, WatchdogReset, Selection}
 use Rattle.device.specs.declared.map.Status.{Status}
 use Rattle.device.specs.declared.map.Status.TheVariants.{Module, Negative, Positive, GateErrors, WatchdogErrors, GateInputs, GateOutputs, Outputs}
 use Rattle.device.specs.declared.map.Status.TheVariants.{GateStates, TagLow, TagHigh, Code, LoaderState, LoaderCounter, Count, Raw, Threshold}
-use Rattle.device.specs.Map.{backplane_map, control_map, counter_map, decode_of, event_map, status_map}
+use Rattle.device.specs.Map.{backplane_map, below, control_map, counter_map, decode_of, event_map, status_map}
 
 -- ---- the map from the registers' side
 
@@ -41,7 +45,6 @@ setting_address (WatchdogReset k) = 0x0810 + k
 setting_address (Selection j) = 0x1100 + (32 * (j / 22) + j % 22)
 
 abbrev pub address_of : Register → ℕ
-address_of Nothing = 0
 address_of (Readout q) = status_address q
 address_of (Other q) = setting_address q
 address_of Control = 0x0801
@@ -73,11 +76,14 @@ InMap (Word i) = i < 16384
 InMap r = Unit
 
 -- what stands at an address: nothing, or a register with that address
-pub data Placed (a : ℕ) (r : Register) : Type 0 where
-  gap : r ≡ Nothing → Placed a r
-  named : InMap r → address_of r ≡ a → Placed a r
+abbrev pub Placed : ℕ → Option Register → Type 0
+Placed a None = Unit
+Placed a (Some r) = InMap r × (address_of r ≡ a)
 
--- ---- page by page
+-- ---- a row of the map after the other
+
+row : (a edge : ℕ) (here rest : Option Register) → (a < edge → Placed a here) → (edge ≤ a → Placed a rest) → Placed a (below a edge here rest)
+row a edge here rest f g = pick_elim (Placed a) (ltb a edge) (λ e. f (ltb-true a edge e)) (λ e. g (ltb-false a edge e))
 
 backplane_placed : (a : ℕ) → Placed a (backplane_map a)
 unfolding backplane_map
@@ -95,6 +101,9 @@ event_placed : (a : ℕ) → 0x0900 ≤ a → Placed a (event_map a)
 unfolding event_map
 event_placed a g = grind arith
 
+raster : (k : ℕ) → 32 * (k / 32) + k % 32 ≡ k
+raster k = omega arith
+
 counter_placed : (a : ℕ) → 0x1000 ≤ a → Placed a (counter_map a)
 unfolding counter_map
 counter_placed a g = grind arith
@@ -103,30 +112,21 @@ pub placed : (a : ℕ) → Placed a (decode_of a)
 unfolding decode_of
 placed a = grind (arith, nat_tests, backplane_placed, status_placed, control_placed, event_placed, counter_placed)
 
-pub in_map : (a : ℕ) → InMap (decode_of a)
-in_map a = by (placed a)
-  where
-    by : Placed a (decode_of a) → InMap (decode_of a)
-    by (gap p) = rw p tt
-    by (named m p) = m
+pub placed_as : (a : ℕ) (r : Register) → decode_of a ≡ Some r → InMap r × (address_of r ≡ a)
+placed_as a r e = subst (Placed a) e (placed a)
 
 -- so two addresses at which registers stand are the same where the registers are
-pub one_address : (a b : ℕ) → (decode_of a ≡ Nothing → ⊥) → decode_of a ≡ decode_of b → a ≡ b
-one_address a b full e = by (placed a) (placed b)
+pub one_address : (a b : ℕ) → (decode_of a ≡ None → ⊥) → decode_of a ≡ decode_of b → a ≡ b
+one_address a b full e = by (decode_of a) refl
   where
-    by : Placed a (decode_of a) → Placed b (decode_of b) → a ≡ b
-    by (gap p) q = absurd (full p)
-    by (named m p) (gap q) = absurd (full (e ∙ q))
-    by (named m p) (named o q) = sym p ∙ ap address_of e ∙ q
+    by : (o : Option Register) → decode_of a ≡ o → a ≡ b
+    by None p = absurd (full p)
+    by (Some r) p = sym (placed_as a r p).1 ∙ (placed_as b r (sym e ∙ p)).1
 
 -- 0x0A02 and no other
-pub decode_reload : decode_of 0x0A02 ≡ Reload
+pub decode_reload : decode_of 0x0A02 ≡ Some Reload
 unfolding decode_of event_map
 decode_reload = refl
 
-pub reload_at : (a : ℕ) → decode_of a ≡ Reload → a ≡ 0x0A02
-reload_at a e = by (placed a)
-  where
-    by : Placed a (decode_of a) → a ≡ 0x0A02
-    by (gap p) = cc
-    by (named m p) = sym p ∙ ap address_of e
+pub reload_at : (a : ℕ) → decode_of a ≡ Some Reload → a ≡ 0x0A02
+reload_at a e = sym (placed_as a Reload e).1

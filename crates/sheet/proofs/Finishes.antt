@@ -12,6 +12,7 @@ use lib.Seq.{get_or-set_same, get_or-set_other}
 use Rattle.std.proofs.lemmas.Grind.{common_steps}
 use Rattle.std.proofs.lemmas.Bool.Decides.{nat_tests}
 use Rattle.std.proofs.Common.{Option, Some, None}
+use Rattle.std.specs.Option.{option_map_or}
 use Rattle.bools.proofs.Tests.{both, cases}
 use Rattle.std.proofs.lemmas.Bool.{and_parts}
 use Rattle.lists.proofs.Tables.{get_d_tabulate, length_tabulate}
@@ -25,6 +26,7 @@ use Rattle.device.specs.declared.state.Common.{Common}
 use Rattle.device.specs.Answer.{is_done}
 use Rattle.registers.specs.Calls.{Call, tick, write, tag, download, accepted_ticks, after, called, download_answer, from, machine0, step, tick_one}
 use Rattle.device.specs.Map.{decode_of, kept}
+use Rattle.device.proofs.Found.{found}
 use Rattle.device.specs.State.{Machine, memory0, power_up, with_state}
 use Rattle.tagging.specs.Tag.{command_of, commanded, events_on, right_key, tag_of, tag_request}
 use Rattle.ticking.specs.Tick.{common_tick, tick_of}
@@ -152,6 +154,9 @@ write_apart m Enable w = (unfold enable_write in (record { loader = refl; queue 
 write_apart m Reload w = (reload_still w m.state.common, reload_in w m.state.common)
 write_apart m r w = unmoved m
 
+apart_at : (m : Machine) (a w : ℕ) → Apart m (option_map_or (λ (r : Register). write_at m r w) (decode_of a) m)
+apart_at m a w = found (Apart m) (λ r. write_at m r w) m (unmoved m) (λ r. write_apart m r w) (decode_of a)
+
 tag_apart : (m : Machine) (t : ℕ) → Apart m (with_state m (tag_of m.state t))
 tag_apart m t =
     tag_by (λ s. Apart m (with_state m s)) m.state t (unmoved m) (unmoved m) (tag_still t m.state.common, tag_request_in t m.state.common)
@@ -199,7 +204,7 @@ due_step m (tick inputs gates) r s n d =
     cases (bad_levels inputs gates)
     (λ b. rw b (due_call m (tick inputs gates) r s n d (rw b (unmoved m))))
     (λ b. rw (b, step_called m d.full (tick inputs gates), b) (due_tick m inputs gates r s n d))
-due_step m (write a w) r s n d = due_call m (write a w) r s n d (write_apart m (decode_of a) w)
+due_step m (write a w) r s n d = due_call m (write a w) r s n d (apart_at m a w)
 due_step m (tag t) r s n d = due_call m (tag t) r s n d (tag_apart m t)
 due_step m (download k words) r s n d =
     due_call m (download k words) r s n d (both (Apart m) (is_done (download_answer k (length words))) (unmoved m) (unmoved m))
@@ -297,7 +302,7 @@ unfolding called
 range_step m f (tick inputs gates) h =
     rw (step_called m f (tick inputs gates))
     (both (λ (y : Machine). CommonInRange y.state.common) (bad_levels inputs gates) h (unfold tick_of in (common_tick_in m.state.common h)))
-range_step m f (write a w) h = rw (step_called m f (write a w)) ((write_apart m (decode_of a) w).1 h)
+range_step m f (write a w) h = rw (step_called m f (write a w)) ((apart_at m a w).1 h)
 range_step m f (tag t) h = rw (step_called m f (tag t)) ((tag_apart m t).1 h)
 range_step m f (download d words) h =
     rw (step_called m f (download d words)) (both (λ (y : Machine). CommonInRange y.state.common) (is_done (download_answer d (length words))) h h)

@@ -24,6 +24,7 @@ use Rattle.device.specs.Answer.{is_done}
 use Rattle.loader.specs.Memory.{is_whole}
 use Rattle.registers.specs.Calls.{Call, tick, write, tag, download, called, download_answer, machine0, step}
 use Rattle.device.specs.Map.{decode_of, kept}
+use Rattle.device.proofs.Found.{found}
 use Rattle.device.specs.State.{Machine, memory0, power_up, with_memory, with_state}
 use Rattle.tagging.specs.Tag.{tag_of}
 use Rattle.ticking.specs.Tick.{tick_of}
@@ -77,7 +78,7 @@ sized_tag m s t =
 sized_called : (m : Machine) → Sized m → (x : Call) → Sized (called m x)
 unfolding called
 sized_called m s (tick inputs gates) = both Sized (bad_levels inputs gates) s (sized_tick m s inputs gates)
-sized_called m s (write a w) = sized_write m s (decode_of a) w
+sized_called m s (write a w) = found Sized (λ r. write_at m r w) m s (λ r. sized_write m s r w) (decode_of a)
 sized_called m s (tag t) = sized_tag m s t
 sized_called m s (download d words) =
     pick_elim Sized (is_done (download_answer d (length words)))

@@ -10,8 +10,7 @@ use Rattle.bools.specs.Pick.{pick}
 use Rattle.words.specs.Word.{pack}
 use Rattle.counters.specs.Counter.{counter0, with_count, with_thresholds}
 use Rattle.registers.specs.Calls.{Call, tick, write, tag, download}
-use Rattle.device.specs.Map.{decode_of}
-use Rattle.sheet.specs.Follows.{follows}
+use Rattle.sheet.specs.Follows.{follows_at}
 use Rattle.sheet.specs.Lines.{own_lines}
 use Rattle.sheet.specs.OwnPart.{Part, ticked, patched, stored, controlled, keyed, enabled, reloaded, timed, grouped, moded, prepared, recovered, tagged, downloaded, own_part_of}
 use Rattle.sheet.specs.Sheet.{sheet_after, sheet_shows}
@@ -258,7 +257,7 @@ looked =
 
 abbrev following : ℕ → List ℕ → List ℕ
 following a [] = []
-following a (b ∷ bs) = pick (follows (decode_of a) (decode_of b)) (b ∷ following a bs) (following a bs)
+following a (b ∷ bs) = pick (follows_at a b) (b ∷ following a bs) (following a bs)
 
 abbrev pub follow_cases : List (Case (List ℕ))
 follow_cases =

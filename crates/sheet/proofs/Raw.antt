@@ -8,7 +8,8 @@ use mathlib.Core.Path.{◌≡◌, refl, sym, ap, ◌∙◌}
 use borrow.Author.Tests.{eq-eqb, lt-ltb}
 use lib.ListN.{length}
 use Rattle.std.proofs.lemmas.Bool.Decides.{nat_tests}
-use Rattle.std.proofs.Common.{Ok}
+use Rattle.std.proofs.Common.{Ok, Some}
+use Rattle.std.specs.Option.{option_map_or}
 use Rattle.words.specs.Word.{bit, bit_of}
 use Rattle.words.proofs.Packing.{bit_pack, bit_zero}
 use Rattle.bools.proofs.Tests.{both, cases}
@@ -23,6 +24,7 @@ use Rattle.device.specs.declared.map.Status.TheVariants.{Raw}
 use Rattle.device.specs.declared.state.Crate.{Crate}
 use Rattle.registers.specs.Calls.{Call, tick, write, tag, download, after, called, from, machine0, step}
 use Rattle.device.specs.Map.{counter_map, decode_of}
+use Rattle.device.proofs.Found.{found}
 use Rattle.reading.specs.Read.{low_first, read_of, status_word, word_in}
 use Rattle.device.specs.State.{Machine, power_up, with_state}
 use Rattle.tagging.specs.Tag.{tag_of}
@@ -49,6 +51,9 @@ left_write : (m : Machine) (r : Register) (w : ℕ) → Left m.state (write_at m
 unfolding write_at
 left_write m (Other r) w = record { rawcounts = rawcounts_stay m r w; levels = refl }
 left_write m r w = assumption
+
+left_at : (m : Machine) (a w : ℕ) → Left m.state (option_map_or (λ (r : Register). write_at m r w) (decode_of a) m).state
+left_at m a w = found (λ (n : Machine). Left m.state n.state) (λ r. write_at m r w) m (assumption) (λ r. left_write m r w) (decode_of a)
 
 left_tag : (s : Crate) (t : ℕ) → Left s (tag_of s t)
 left_tag s t = tag_by (Left s) s t (assumption) (assumption) (assumption) (assumption) (assumption) (assumption)
@@ -142,7 +147,7 @@ module _ (i : ℕ) (b : i < 54) where
   unfolding from levels_of rises_in called
   raw_from [] m n whole h = h ∙ ap (λ (k : ℕ). k % 2 ^ 32) (sym (add-zero n))
   raw_from (tick inputs gates ∷ l) m n whole h = ticked l (raw_from l) m n whole h inputs gates
-  raw_from (write a w ∷ l) m n whole h = past l (raw_from l) m n whole h (write a w) (left_write m (decode_of a) w)
+  raw_from (write a w ∷ l) m n whole h = past l (raw_from l) m n whole h (write a w) (left_at m a w)
   raw_from (tag t ∷ l) m n whole h = past l (raw_from l) m n whole h (tag t) (left_tag m.state t)
   raw_from (download d words ∷ l) m n whole h = past l (raw_from l) m n whole h (download d words) (left_download m d words)
 
@@ -164,7 +169,7 @@ module _ (i : ℕ) (b : i < 54) where
 
 -- ---- as they are read
 
-decode_raw : (j : ℕ) → j < 108 → decode_of (0x1300 + j) ≡ Readout (Raw j)
+decode_raw : (j : ℕ) → j < 108 → decode_of (0x1300 + j) ≡ Some (Readout (Raw j))
 unfolding decode_of counter_map
 decode_raw j h = grind (arith, nat_tests)
 

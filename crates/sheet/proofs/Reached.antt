@@ -38,6 +38,7 @@ use Rattle.device.specs.Answer.{is_done}
 use Rattle.loader.specs.Memory.{is_whole}
 use Rattle.registers.specs.Calls.{Call, tick, write, tag, download, after, called, from, machine0, step}
 use Rattle.device.specs.Map.{decode_of, kept, used_bits}
+use Rattle.device.proofs.Found.{found}
 use Rattle.device.specs.State.{Machine, common0, memory0, power_up, with_groups, with_memory, with_registers, with_rest, with_state}
 use Rattle.tagging.specs.Tag.{noted_in, tag_of, tag_request}
 use Rattle.ticking.specs.Tick.{common_tick, rest_tick, tick_of}
@@ -335,7 +336,7 @@ unfolding from OfWords
 reached_from m h [] o = h
 reached_from m h (tick inputs gates ∷ l) o = reached_from (step m (tick inputs gates)) (made m _ (tick_once m inputs gates) h) l o
 reached_from m h (write a w ∷ l) o =
-    reached_from (step m (write a w)) (made m _ (λ h. unfold called in (reached_write m h (decode_of a) w)) h) l o
+    reached_from (step m (write a w)) (made m _ (λ h. unfold called in (found Reached (λ r. write_at m r w) m h (λ r. reached_write m h r w) (decode_of a))) h) l o
 reached_from m h (tag t ∷ l) o = reached_from (step m (tag t)) (made m _ (λ h. unfold called in (reached_tag m h t)) h) l o
 reached_from m h (download d words ∷ l) o =
     reached_from (step m (download d words)) (made m _ (λ h. reached_download m h d words o.0) h) l o.1

@@ -12,7 +12,8 @@ use lib.Pow.{pow_mono, pow_pos}
 use lib.Seq.{get_or-set_same, get_or-set_other}
 use Rattle.std.proofs.lemmas.Grind.{common_steps}
 use Rattle.bools.specs.Pick.{pick}
-use Rattle.std.proofs.Common.{Ok}
+use Rattle.std.proofs.Common.{Result, Ok, Err, Option, Some, None}
+use Rattle.std.specs.Option.{option_map_or}
 use Rattle.words.specs.Word.{bit, pack}
 use Rattle.words.proofs.Fields.{bit_low}
 use Rattle.words.proofs.Gather.{pack_ext, pack_is}
@@ -30,7 +31,7 @@ use Rattle.loader.specs.Loader.{busy}
 use Rattle.loader.specs.Memory.{is_whole, word_at}
 use Rattle.watchdogs.specs.Watchdog.{error_of, reset_in, reset_of, reset_watchdogs, step_watchdogs, watchdog0, watchdog_at, watchdog_word, with_reset}
 use Rattle.device.specs.declared.map.Register.{Register}
-use Rattle.device.specs.declared.map.Register.TheVariants.{Nothing, Readout, Other, Control, Mode, Timeout, Key, Enable, Reload, Prepare, Recover, Input, Group, Word}
+use Rattle.device.specs.declared.map.Register.TheVariants.{Readout, Other, Control, Mode, Timeout, Key, Enable, Reload, Prepare, Recover, Input, Group, Word}
 use Rattle.device.specs.declared.map.Setting.{Setting}
 use Rattle.device.specs.declared.map.Setting.TheVariants.{Mask, WatchdogTimeout, WatchdogReset, Selection}
 use Rattle.device.specs.declared.map.Status.{Status}
@@ -39,11 +40,14 @@ use Rattle.device.specs.declared.map.Status.TheVariants.{Count}
 use Rattle.device.specs.declared.state.Common.{Common}
 use Rattle.device.specs.declared.state.Crate.{Crate}
 use Rattle.device.specs.declared.state.Rest.{Rest}
-use Rattle.device.specs.Answer.{is_done}
+use Rattle.device.specs.declared.answer.Refusal.{Refusal}
+use Rattle.device.specs.declared.answer.Refusal.TheVariants.{Address}
+use Rattle.device.specs.Answer.{Answer, is_done}
+use Rattle.device.proofs.Found.{found}
 use Rattle.registers.specs.Calls.{Call, tick, write, tag, download, after, answer, called, call_answer, download_answer, machine0, step}
 use Rattle.interlocks.specs.Interlock.{interlocks, other_signals, output_count, selected, signals, trips, trips_by}
-use Rattle.device.specs.Map.{decode_of, kept, output_words}
-use Rattle.reading.specs.Read.{answer_for, read_of, setting_word, status_word, with_word, word_in}
+use Rattle.device.specs.Map.{decode_of, kept, kept_at, output_words}
+use Rattle.reading.specs.Read.{read_of, setting_word, status_word, word_in}
 use Rattle.device.specs.State.{Machine, power_up, with_counters, with_gates, with_groups, with_memory, with_rest, with_state}
 use Rattle.tagging.specs.Tag.{noted_in, tag_of}
 use Rattle.ticking.specs.Tick.{rest_tick, tick_of}
@@ -51,8 +55,8 @@ use Rattle.lines.specs.Lines.{bad_levels}
 use Rattle.writing.specs.Write.{control_write, enable_write, key_write, on_common, on_counters, on_gates, reload_answer, reload_write, requested, reset_by, rest_write}
 use Rattle.writing.specs.Write.{with_reload, write_answer, write_at}
 use Rattle.registers.proofs.Whole.{full, step_called}
-use Rattle.sheet.specs.Follows.{follows}
-use Rattle.sheet.proofs.Addresses.{InBlock, InMap, Placed, gap, named, address_of, in_map, placed}
+use Rattle.sheet.specs.Follows.{follows, follows_at}
+use Rattle.sheet.proofs.Addresses.{InBlock, InMap, address_of, placed_as}
 use Rattle.sheet.proofs.Changes.{list_keeps, tag_by}
 use Rattle.sheet.proofs.Isolation.{sized_from}
 use Rattle.sheet.proofs.Kept.{sized_start}
@@ -94,7 +98,7 @@ rest_tagged s t h = let n : RestOf (noted_in s t) = assumption in tag_by RestOf 
 rest_called : (m : Machine) → RestIn m → (x : Call) → RestIn (called m x)
 unfolding called
 rest_called m h (tick inputs gates) = both RestIn (bad_levels inputs gates) h (rest_ticked m.state m.memory inputs gates h)
-rest_called m h (write a w) = rest_written m h (decode_of a) w
+rest_called m h (write a w) = found RestIn (λ r. write_at m r w) m h (λ r. rest_written m h r w) (decode_of a)
 rest_called m h (tag t) = rest_tagged m.state t h
 rest_called m h (download d words) = both RestIn (is_done (download_answer d (length words))) h h
 
@@ -116,15 +120,25 @@ sized_after l = sized_from machine0 sized_start l
 
 -- ---- a write and a read, with a whole memory
 
-written : (m : Machine) → length m.memory ≡ 16384 → (a w : ℕ) → step m (write a w) ≡ write_at m (decode_of a) w
+-- a write and a read by what stands at their address
+abbrev write_in : Machine → Option Register → ℕ → Machine
+write_in m o w = option_map_or (λ (r : Register). write_at m r w) o m
+
+abbrev answer_in : Common → Option Register → ℕ → Answer
+answer_in cm o w = option_map_or (λ (r : Register). write_answer cm r w) o (Err Address)
+
+abbrev read_in : Machine → Option Register → Result ℕ Refusal
+read_in m o = option_map_or (λ (r : Register). Ok (word_in m r)) o (Err Address)
+
+written : (m : Machine) → length m.memory ≡ 16384 → (a w : ℕ) → step m (write a w) ≡ write_in m (decode_of a) w
 unfolding called
 written m h a w = step_called m h (write a w)
 
-answered : (m : Machine) → length m.memory ≡ 16384 → (a w : ℕ) → answer m (write a w) ≡ write_answer m.state.common (decode_of a) w
+answered : (m : Machine) → length m.memory ≡ 16384 → (a w : ℕ) → answer m (write a w) ≡ answer_in m.state.common (decode_of a) w
 unfolding answer call_answer
 answered m h a w = rw (eq-eqb (length m.memory) 16384 h)
 
-read : (m : Machine) → length m.memory ≡ 16384 → (a : ℕ) → read_of m a ≡ with_word (answer_for (decode_of a)) (word_in m (decode_of a))
+read : (m : Machine) → length m.memory ≡ 16384 → (a : ℕ) → read_of m a ≡ read_in m (decode_of a)
 unfolding read_of
 read m h a = rw (eq-eqb (length m.memory) 16384 h)
 
@@ -192,30 +206,31 @@ unfolding reload_write
 reload_back w cm e = grind arith
 
 back_at : (m : Machine) → Sized m → RestIn m → (r : Register) → InMap r → (w : ℕ) → write_answer m.state.common r w ≡ Ok tt →
-    with_word (answer_for r) (word_in (write_at m r w) r) ≡ Ok (kept r w)
+    word_in (write_at m r w) r ≡ kept r w
 unfolding write_answer write_at word_in control_write key_write enable_write counter_at gate_at word_at
-back_at m s h Nothing l w e = cc
 back_at m s h (Readout r) l w e = cc
-back_at m s h (Other r) l w e = ap (with_word (Ok tt)) (setting_back m.state h r l w)
-back_at m s h Mode l w e = ap (with_word (Ok tt)) (unfold kept in (gates_back mode with_mode (λ b x. refl) w m.state.gates))
-back_at m s h (Timeout g) l w e =
-    ap (λ (x : Gate). with_word (Ok tt) x.timeout) (get_or-set_same m.state.gates g _ gate0 (omega (arith, s.gates)))
-back_at m s h Reload l w e = ap (with_word (Ok tt)) (reload_back w m.state.common e)
-back_at m s h Prepare l w e = ap (with_word (Ok tt)) (unfold kept in (gates_back prepare with_prepare (λ b x. refl) w m.state.gates))
-back_at m s h Recover l w e = ap (with_word (Ok tt)) (unfold kept in (gates_back recover with_recover (λ b x. refl) w m.state.gates))
-back_at m s h (Input n) l w e =
-    ap (λ (x : Counter). with_word (Ok tt) x.input) (get_or-set_same m.state.counters n _ counter0 (omega (arith, s.counters)))
-back_at m s h (Group k) l w e = ap (with_word (Ok tt)) (get_or-set_same m.state.groups k _ 0 (omega (arith, s.groups)))
-back_at m s h (Word i) l w e = ap (with_word (Ok tt)) (get_or-set_same m.memory i _ 0 (omega (arith, s.memory)))
+back_at m s h (Other r) l w e = setting_back m.state h r l w
+back_at m s h Mode l w e = unfold kept in (gates_back mode with_mode (λ b x. refl) w m.state.gates)
+back_at m s h (Timeout g) l w e = ap (λ (x : Gate). x.timeout) (get_or-set_same m.state.gates g _ gate0 (omega (arith, s.gates)))
+back_at m s h Reload l w e = reload_back w m.state.common e
+back_at m s h Prepare l w e = unfold kept in (gates_back prepare with_prepare (λ b x. refl) w m.state.gates)
+back_at m s h Recover l w e = unfold kept in (gates_back recover with_recover (λ b x. refl) w m.state.gates)
+back_at m s h (Input n) l w e = ap (λ (x : Counter). x.input) (get_or-set_same m.state.counters n _ counter0 (omega (arith, s.counters)))
+back_at m s h (Group k) l w e = get_or-set_same m.state.groups k _ 0 (omega (arith, s.groups))
+back_at m s h (Word i) l w e = get_or-set_same m.memory i _ 0 (omega (arith, s.memory))
 back_at m s h r l w e = refl
 
 -- after an accepted write a read of the same register gives the word less its unused bits
-pub read_back : (l : List Call) (a w : ℕ) → answer (after l) (write a w) ≡ Ok tt →
-    read_of (step (after l) (write a w)) a ≡ Ok (kept (decode_of a) w)
+pub read_back : (l : List Call) (a w : ℕ) → answer (after l) (write a w) ≡ Ok tt → read_of (step (after l) (write a w)) a ≡ Ok (kept_at a w)
 read_back l a w e =
     read (step (after l) (write a w)) (full (after l) (sized_after l).memory (write a w)) a
-    ∙ ap (λ (m : Machine). with_word (answer_for (decode_of a)) (word_in m (decode_of a))) (written (after l) (sized_after l).memory a w)
-    ∙ back_at (after l) (sized_after l) (rest_after l) (decode_of a) (in_map a) w (sym (answered (after l) (sized_after l).memory a w) ∙ e)
+    ∙ ap (λ (m : Machine). read_in m (decode_of a)) (written (after l) (sized_after l).memory a w)
+    ∙ by (decode_of a) refl (sym (answered (after l) (sized_after l).memory a w) ∙ e)
+  where
+    by : (o : Option Register) → decode_of a ≡ o → answer_in (after l).state.common o w ≡ Ok tt →
+        read_in (write_in (after l) o w) o ≡ Ok (option_map_or (λ (r : Register). kept r w) o 0)
+    by None p e = cc
+    by (Some r) p e = ap Ok (back_at (after l) (sized_after l) (rest_after l) r (placed_as a r p).0 w e)
 
 -- ---- the other registers: part by part, what a write to r leaves as it was
 
@@ -287,7 +302,6 @@ setting_apart r m n h q d = grind arith
 
 word_apart : (r : Register) (m n : Machine) → Apart r m n → (q : Register) → (r ≡ q → ⊥) → follows r q ≡ false → word_in m q ≡ word_in n q
 unfolding word_in gate_bits
-word_apart r m n h Nothing d f = refl
 word_apart r m n h (Readout q) d f = status_apart r m n h q f
 word_apart r m n h (Other q) d f = setting_apart r m n h q d
 word_apart r m n h Control d f = h.common.control d
@@ -496,34 +510,20 @@ apart_written m s h (Word i) l w =
 apart_written m s h r l w = apart_kept r m
 
 -- and a read of any other register gives what it gave, but for the side effects that `follows` names
-other_register : (l : List Call) (a w b : ℕ) → (decode_of a ≡ decode_of b → ⊥) → follows (decode_of a) (decode_of b) ≡ false →
+other_register : (l : List Call) (r : Register) → InMap r → (w : ℕ) (q : Register) → (r ≡ q → ⊥) → follows r q ≡ false →
+    word_in (write_at (after l) r w) q ≡ word_in (after l) q
+other_register l r i w q d f = word_apart r (write_at (after l) r w) (after l) (apart_written (after l) (sized_after l) (rest_after l) r i w) q d f
+
+-- a write where there is no register leaves all, and where there is none a read is refused
+pub read_other : (l : List Call) (a w b : ℕ) → (a ≡ b → ⊥) → follows_at a b ≡ false →
     read_of (step (after l) (write a w)) b ≡ read_of (after l) b
-other_register l a w b d f =
-    let size = (sized_after l).memory in
-    read (step (after l) (write a w)) (full (after l) size (write a w)) b
-    ∙ ap (λ (m : Machine). with_word (answer_for (decode_of b)) (word_in m (decode_of b))) (written (after l) size a w)
-    ∙ ap (with_word (answer_for (decode_of b)))
-    (word_apart (decode_of a) (write_at (after l) (decode_of a) w) (after l)
-    (apart_written (after l) (sized_after l) (rest_after l) (decode_of a) (in_map a) w) (decode_of b) d f)
-    ∙ sym (read (after l) size b)
-
--- a write where there is no register leaves all, and where there is none a read gives nothing of the crate
-read_gap : (l : List Call) (a w b : ℕ) → decode_of a ≡ Nothing → read_of (step (after l) (write a w)) b ≡ read_of (after l) b
-unfolding write_at
-read_gap l a w b e =
-    ap (λ (m : Machine). read_of m b)
-    (written (after l) (sized_after l).memory a w ∙ ap (λ (r : Register). write_at (after l) r w) e)
-
-gap_read : (m k : Machine) → length m.memory ≡ 16384 → length k.memory ≡ 16384 → (b : ℕ) → decode_of b ≡ Nothing → read_of m b ≡ read_of k b
-unfolding word_in
-gap_read m k p q b e = grind (arith, read)
-
-pub read_other : (l : List Call) (a w b : ℕ) → (a ≡ b → ⊥) → follows (decode_of a) (decode_of b) ≡ false →
-    read_of (step (after l) (write a w)) b ≡ read_of (after l) b
-read_other l a w b d f = by (placed a) (placed b)
+read_other l a w b d f =
+    read (step (after l) (write a w)) (full (after l) (sized_after l).memory (write a w)) b
+    ∙ ap (λ (m : Machine). read_in m (decode_of b)) (written (after l) (sized_after l).memory a w)
+    ∙ by (decode_of a) refl (decode_of b) refl
+    ∙ sym (read (after l) (sized_after l).memory b)
   where
-    by : Placed a (decode_of a) → Placed b (decode_of b) → read_of (step (after l) (write a w)) b ≡ read_of (after l) b
-    by (gap e) q = read_gap l a w b e
-    by (named m p) (gap e) =
-        gap_read (step (after l) (write a w)) (after l) (full (after l) (sized_after l).memory (write a w)) (sized_after l).memory b e
-    by (named m p) (named o q) = other_register l a w b (λ e. d (sym p ∙ ap address_of e ∙ q)) f
+    by : (o : Option Register) → decode_of a ≡ o → (p : Option Register) → decode_of b ≡ p → read_in (write_in (after l) o w) p ≡ read_in (after l) p
+    by None e p q = refl
+    by (Some r) e None q = refl
+    by (Some r) e (Some t) q = ap Ok (other_register l r (placed_as a r e).0 w t (λ n. d (sym (placed_as a r e).1 ∙ ap address_of n ∙ (placed_as b t q).1)) (rw (e, q) at f))

@@ -17,7 +17,7 @@ use Rattle.interlocks.specs.declared.scan.OutputScan.{OutputScan}
 use Rattle.interlocks.specs.Interlock.{trips}
 use Rattle.interlocks.specs.Scan.{scan_of}
 use Rattle.registers.specs.Calls.{Call, write, accepted_ticks, after, from, left_by_refusal, machine0, powered, powered_memory, refusals, step}
-use Rattle.device.specs.Map.{decode_of, kept}
+use Rattle.device.specs.Map.{decode_of, kept_at}
 use Rattle.reading.specs.Read.{low_first, read_of, word_shown}
 use Rattle.device.specs.State.{Machine, machine}
 use Rattle.registers.proofs.Lists.{from_append}
@@ -25,7 +25,7 @@ use Rattle.trace.specs.declared.Report.{Report}
 use Rattle.trace.specs.Passed.{calls_in, passed_in}
 use Rattle.trace.specs.Run.{Run, machine_of, once_of, progress_of, run, run_of}
 use Rattle.trace.specs.Sound.{Sound}
-use Rattle.sheet.specs.Follows.{follows}
+use Rattle.sheet.specs.Follows.{follows_at}
 use Rattle.sheet.specs.Lines.{own_lines}
 use Rattle.sheet.specs.OwnPart.{Part, own_part, own_part_of}
 use Rattle.sheet.specs.Raw.{raw_count}
@@ -104,11 +104,11 @@ module _ (l : List Act) (n : Machine) (h : Rehearsed l n) where
 
   -- a write that `write` accepted, and a read after it
   pub code_read_back : (a w : ℕ) (answered : Answer) (k : Machine) → Returned n (write a w) answered k → answered ≡ Ok tt →
-      (q : Result ℕ Refusal) → Looked k a q → q ≡ Ok (kept (decode_of a) w)
+      (q : Result ℕ Refusal) → Looked k a q → q ≡ Ok (kept_at a w)
   code_read_back a w answered k back e q look = grind (arith, rehearsed, read_back)
 
   -- two reads of another register, before a write and after it
-  pub code_read_other : (a w b : ℕ) → (decode_of a ≡ decode_of b → ⊥) → follows (decode_of a) (decode_of b) ≡ false →
+  pub code_read_other : (a w b : ℕ) → (decode_of a ≡ decode_of b → ⊥) → follows_at a b ≡ false →
       (p : Result ℕ Refusal) → Looked n b p → (answered : Answer) (k : Machine) → Returned n (write a w) answered k →
       (q : Result ℕ Refusal) → Looked k b q → q ≡ p
   code_read_other a w b d f p before answered k back q look = grind (arith, rehearsed, read_other)

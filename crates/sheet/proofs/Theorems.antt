@@ -6,14 +6,13 @@ use mathlib.Core.List.{List, ◌++◌}
 use mathlib.Core.Logic.{◌↔◌}
 use mathlib.Core.Path.{◌≡◌, sym, ap, ◌∙◌}
 use lib.ListN.{length}
-use Rattle.std.proofs.Common.{Ok, Some}
+use Rattle.std.proofs.Common.{Ok, Some, None}
 use Rattle.words.specs.Word.{bit}
 use Rattle.loader.specs.declared.loader.Request.{Request}
 use Rattle.loader.specs.Memory.{is_whole}
-use Rattle.device.specs.declared.map.Register.TheVariants.{Nothing}
 use Rattle.device.specs.Answer.{is_done}
 use Rattle.registers.specs.Calls.{Call, write, accepted_ticks, after, answer, from, left_by_refusal, refusals, step}
-use Rattle.device.specs.Map.{decode_of, kept}
+use Rattle.device.specs.Map.{decode_of, kept_at}
 use Rattle.interlocks.specs.Interlock.{trips}
 use Rattle.interlocks.specs.Scan.{scan_of}
 use Rattle.reading.specs.Read.{low_first, read_of, word_shown}
@@ -24,7 +23,7 @@ use Rattle.trace.specs.Run.{machine_of, once_of, run_of}
 use Rattle.trace.specs.Sound.{Sound}
 use Rattle.trace.proofs.Halts as halting
 use Rattle.trace.proofs.Listed as listing
-use Rattle.sheet.specs.Follows.{follows}
+use Rattle.sheet.specs.Follows.{follows_at}
 use Rattle.sheet.specs.Lines.{Holds, Lines, own_lines}
 use Rattle.sheet.specs.OwnPart.{Cut, Part, own_part, own_part_of}
 use Rattle.sheet.specs.Raw.{levels_of, raw_count, rises_in}
@@ -129,16 +128,16 @@ refused = refusing.refused
 
 -- Demand 2, over the whole map: after an accepted write a read of the same register gives the word less its unused bits ..
 pub read_back : (l : List Call) (a w : ℕ) → answer (after l) (write a w) ≡ Ok tt →
-    read_of (step (after l) (write a w)) a ≡ Ok (kept (decode_of a) w)
+    read_of (step (after l) (write a w)) a ≡ Ok (kept_at a w)
 read_back = reading.read_back
 
 -- .. and a read at any other address gives what it gave, but for the side effects that `follows` names.
-pub read_other : (l : List Call) (a w b : ℕ) → (a ≡ b → ⊥) → follows (decode_of a) (decode_of b) ≡ false →
+pub read_other : (l : List Call) (a w b : ℕ) → (a ≡ b → ⊥) → follows_at a b ≡ false →
     read_of (step (after l) (write a w)) b ≡ read_of (after l) b
 read_other = reading.read_other
 
 -- Two addresses at which registers stand are the same where the registers are: so no register of the map has two.
-pub one_address : (a b : ℕ) → (decode_of a ≡ Nothing → ⊥) → decode_of a ≡ decode_of b → a ≡ b
+pub one_address : (a b : ℕ) → (decode_of a ≡ None → ⊥) → decode_of a ≡ decode_of b → a ≡ b
 one_address = placing.one_address
 
 -- Document 02, request 1: after every list of calls the words at 0x1300 + 2 × i and the address after it are the low and the high word of the

@@ -1,7 +1,9 @@
 -- What a read of one register may give otherwise once another was written: document 01's side effects of writes, and no more.
 use Rattle.std.specs.Prelude.{ℕ, Bool, true, false, eqb}
+use Rattle.std.specs.Option.{option_map_or}
+use Rattle.device.specs.Map.{decode_of}
 use Rattle.device.specs.declared.map.Register.{Register}
-use Rattle.device.specs.declared.map.Register.TheVariants.{Nothing, Readout, Other, Control, Mode, Timeout, Key, Enable, Reload, Prepare, Recover, Input, Group, Word}
+use Rattle.device.specs.declared.map.Register.TheVariants.{Readout, Other, Control, Mode, Timeout, Key, Enable, Reload, Prepare, Recover, Input, Group, Word}
 use Rattle.device.specs.declared.map.Setting.{Setting}
 use Rattle.device.specs.declared.map.Setting.TheVariants.{Mask, WatchdogTimeout, WatchdogReset, Selection}
 use Rattle.device.specs.declared.map.Status.{Status}
@@ -78,7 +80,6 @@ follows_setting (WatchdogReset k) q = follows_reset k q
 follows_setting (Selection j) q = follows_selection q
 
 abbrev pub status_follows : Register → Status → Bool
-status_follows Nothing q = false
 status_follows (Readout r) q = false
 status_follows (Other r) q = follows_setting r q
 status_follows Control q = follows_control q
@@ -95,7 +96,6 @@ status_follows (Word i) q = false
 
 -- a write to r may change what a read of q gives, at once: only read-only registers follow others
 abbrev pub follows : Register → Register → Bool
-follows r Nothing = false
 follows r (Readout q) = status_follows r q
 follows r (Other q) = false
 follows r Control = false
@@ -109,3 +109,8 @@ follows r Recover = false
 follows r (Input n) = false
 follows r (Group k) = false
 follows r (Word i) = false
+
+-- the same of two addresses: where there is no register, nothing follows and nothing is followed
+abbrev pub follows_at : ℕ → ℕ → Bool
+follows_at a b =
+    option_map_or (λ (r : Register). option_map_or (λ (q : Register). follows r q) (decode_of b) false) (decode_of a) false

@@ -1,13 +1,14 @@
 -- Document 01, "The one-counter sheet": c's own part of a list.
 -- In: own lines S, a counter, a list of calls. Out: the list of what the sheet is fed. Bits of other lines are 0 in it.
 use Rattle.std.specs.Prelude.{ℕ, ◌+◌, ◌*◌, ◌/◌, ◌%◌, Bool, ◌||◌, Option, Some, None, List, [], ◌∷◌, ◌++◌, ◌≡◌, eqb, get_or, length}
+use Rattle.std.specs.Option.{option_map_or}
 use Rattle.bools.specs.Pick.{pick}
 use Rattle.words.specs.Word.{masked_bits, nibble}
 use Rattle.lists.specs.Table.{tabulate}
 use Rattle.lines.specs.Lines.{bad_levels, gate_count, input_count}
 use Rattle.loader.specs.Memory.{dataset_words}
 use Rattle.device.specs.declared.map.Register.{Register}
-use Rattle.device.specs.declared.map.Register.TheVariants.{Nothing, Readout, Other, Control, Mode, Timeout, Key, Enable, Reload, Prepare, Recover, Input, Group, Word}
+use Rattle.device.specs.declared.map.Register.TheVariants.{Readout, Other, Control, Mode, Timeout, Key, Enable, Reload, Prepare, Recover, Input, Group, Word}
 use Rattle.registers.specs.Calls.{Call, tick, write, tag, download}
 use Rattle.device.specs.Map.{decode_of}
 use Rattle.tagging.specs.Tag.{command_of}
@@ -44,7 +45,6 @@ own_word i = 4 * (i / dataset_words) + i % 4
 
 -- "a write elsewhere drops out"
 unfoldable pub own_at : Lines → ℕ → Register → ℕ → Option Part
-own_at S c Nothing w = None
 own_at S c (Readout r) w = None
 own_at S c (Other r) w = None
 own_at S c Control w = Some (controlled w)
@@ -70,7 +70,7 @@ four_of c words = pick (eqb (length words) dataset_words) (tabulate 4 (λ j. get
 unfoldable pub own : Lines → ℕ → Call → Option Part
 own S c (tick inputs gates) =
     Some (ticked (bad_levels inputs gates) (masked_bits input_count S.inputs inputs) (masked_bits gate_count S.gates gates))
-own S c (write a w) = own_at S c (decode_of a) w
+own S c (write a w) = option_map_or (λ (r : Register). own_at S c r w) (decode_of a) None
 own S c (tag t) = Some (tagged (own_tag S t))
 own S c (download d words) = Some (downloaded d (length words) (four_of c words))
 

@@ -6,6 +6,7 @@ use mathlib.Core.List.{List, [], ◌∷◌, ◌++◌}
 use lib.Dec.{eqb, ltb}
 use lib.IntN.{pos, negsuc}
 use lib.ListN.{replicate, get_or}
+use Rattle.std.specs.Option.{option_map_or}
 use Rattle.numbers.specs.Signed.{word_of}
 use Rattle.words.specs.Word.{bit_of}
 use Rattle.lists.specs.Checks.{Row, row}
@@ -172,7 +173,7 @@ counts r = bit_of (ltb 0 (used_bits r)) + 100_000 * bit_of (eqb (number_of (writ
 
 abbrev pub mapped : ℕ → ℕ → ℕ
 mapped zero sum = sum
-mapped (suc n) sum = mapped n (sum + counts (decode_of n))
+mapped (suc n) sum = mapped n (sum + option_map_or counts (decode_of n) 0)
 
 unfoldable pub register_rows : List Row
 register_rows =

@@ -9,9 +9,9 @@ use Rattle.counters.specs.Counter.{clear_counters, counter_at, reset_on, with_in
 use Rattle.gates.specs.Gate.{each_gate, gate_at, with_mode, with_prepare, with_recover, with_timeout}
 use Rattle.loader.specs.Loader.{is_beyond, is_full, pushed, request_for}
 use Rattle.watchdogs.specs.Watchdog.{reset_watchdogs}
-use Rattle.device.specs.declared.answer.Refusal.TheVariants.{Address, ReadOnly, Dataset, Full}
+use Rattle.device.specs.declared.answer.Refusal.TheVariants.{ReadOnly, Dataset, Full}
 use Rattle.device.specs.declared.map.Register.{Register}
-use Rattle.device.specs.declared.map.Register.TheVariants.{Nothing, Readout, Other, Control, Mode, Timeout, Key, Enable, Reload, Prepare, Recover, Input, Group, Word}
+use Rattle.device.specs.declared.map.Register.TheVariants.{Readout, Other, Control, Mode, Timeout, Key, Enable, Reload, Prepare, Recover, Input, Group, Word}
 use Rattle.device.specs.declared.map.Setting.{Setting}
 use Rattle.device.specs.declared.map.Setting.TheVariants.{Mask, WatchdogTimeout, WatchdogReset, Selection}
 use Rattle.device.specs.declared.state.Common.{Common}
@@ -73,9 +73,8 @@ rest_write (WatchdogReset k) w r =
 rest_write (Selection j) w r =
     rest_of r.masks r.timeout (set r.selections j (kept (Other (Selection j)) w)) r.watchdogs r.rawcounts r.gatelevels r.events
 
--- cause 2, then 3, then for 0x0A02 those of a request
+-- cause 3, then for 0x0A02 those of a request
 unfoldable pub write_answer : Common → Register → ℕ → Answer
-write_answer cm Nothing w = Err Address
 write_answer cm (Readout r) w = Err ReadOnly
 write_answer cm (Other r) w = Ok tt
 write_answer cm Control w = Ok tt
@@ -105,7 +104,6 @@ on_common m x = with_state m (with_common m.state x)
 
 -- what a write to a register does; a refused one leaves all
 unfoldable pub write_at : Machine → Register → ℕ → Machine
-write_at m Nothing w = m
 write_at m (Readout r) w = m
 write_at m (Other r) w = with_state m (with_rest m.state (rest_write r w m.state.rest))
 write_at m Control w = on_common (on_counters m (reset_by w m.state.counters)) (control_write w m.state.common)

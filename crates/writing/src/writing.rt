@@ -132,7 +132,6 @@ pub fn write_at(
     ensures { (result ≡ write_answer s.old.common r word) × (machine s.new mem.new ≡ write_at (machine s.old mem.old) r word) }
 {
     match r {
-        Register::Nothing => return Err(Refusal::Address),
         Register::Readout(_) => return Err(Refusal::ReadOnly),
         Register::Other(setting) => write_setting(&mut s.rest, setting, word),
         Register::Control => write_control(s, word),
