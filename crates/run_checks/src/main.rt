@@ -83,9 +83,8 @@ const AUTORESET: [Check; 3] = [
 // 01's example, as the program prints it.
 fn example(rt: &(impl Files + Print + Eprint)) {
     let mut buf = io::large_buffer();
-    if let Some(trace) = playing::load(rt, b"example", &mut buf) {
-        write(rt, printing::rehearse(trace));
-    }
+    let trace = playing::load(rt, b"example", &mut buf).unwrap_or(&[]);
+    write(rt, printing::rehearse(trace));
 }
 
 // The tick of the first rise of a test signal, counted by counter 0 on a direct gate, if there is one in 20,000.
