@@ -1,5 +1,5 @@
 -- The next offset of a run is what the records that it passed take: 14 bytes for a tick record, 7 for a write or a tag.
-use Prim.Native.Nat.{ℕ, zero, suc, ◌+◌, ◌-◌}
+use Prim.Native.Nat.{ℕ, zero, suc, ◌+◌}
 use native.Mathlib.Nat.{add-zero}
 use native.Mathlib.Omega.{arith}
 use mathlib.Core.Bool.{true, false}

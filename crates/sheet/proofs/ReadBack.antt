@@ -24,7 +24,7 @@ use Rattle.lists.proofs.Tables.{get_or_each, length_each, length_tabulate}
 use Rattle.counters.specs.declared.counter.Counter.{Counter}
 use Rattle.gates.specs.declared.gate.Gate.{Gate}
 use Rattle.watchdogs.specs.declared.watchdog.Watchdog.{Watchdog}
-use Rattle.gates.specs.Gate.{each_gate, failed, gate0, gate_at, gate_bits, is_error, mode, output, outputs_of, prepare, recover}
+use Rattle.gates.specs.Gate.{each_gate, failed, gate0, gate_at, gate_bits, is_error, mode, outputs_of, prepare, recover}
 use Rattle.gates.specs.Gate.{state_word, with_mode, with_prepare, with_recover, with_timeout}
 use Rattle.counters.specs.Counter.{clear_counters, cleared, counter0, counter_at, is_over, is_under, overflow_word, reset_on, with_input}
 use Rattle.loader.specs.Loader.{busy}
