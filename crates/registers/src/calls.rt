@@ -1,4 +1,5 @@
-// The calls on a crate. Each is lent the threshold memory and refuses one that is not of 16,384 words.
+// The calls on a crate. Each is lent the threshold memory and refuses one that is not of 16,384 words. Crate and memory stay two arguments:
+// the memory is lent anew with every call, of whatever length, and a type that held both would ask for the right length of callers.
 ghost use Rattle.std.specs.Prelude.{◌≡◌};
 ghost use Rattle.registers.specs.Calls.{answer, step, powered, powered_memory};
 ghost use Rattle.registers.specs.Calls.{tick as call_tick, write as call_write, tag as call_tag, download as call_download};

@@ -19,6 +19,7 @@ pub fn read_input<R: Read>(reader: &mut R, buf: &mut [u8]) -> Result<usize, Read
     ensures read_before { IfErr result (λ e. IsPrefixLen e.length buf.new) }
 {
     let mut length = 0;
+    // no index is counted: a read gives as many bytes as it likes
     while length < buf.len() {
         match reader.read(&mut buf[length..]) {
             Ok(0) => break,
