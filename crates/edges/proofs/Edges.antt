@@ -285,6 +285,7 @@ address_of (Input n) = in_block 0x1000 128 n  -- IN_SEL
 address_of (Group k) = in_block 0x1600 32 k  -- CTR_GROUPS
 address_of (Word i) = in_block 0x8000 16_384 i  -- THR_RAM
 
+-- where there is no register, 0
 abbrev pub named : Option Register → ℕ
 named o = option_map_or address_of o 0
 
