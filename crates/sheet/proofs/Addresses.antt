@@ -2,11 +2,8 @@
 use Prim.Native.Nat.{ℕ, ◌+◌, ◌*◌, ◌/◌, ◌%◌, ◌<◌, ◌≤◌}
 use native.Mathlib.Omega.{arith}
 use mathlib.Core.Path.{◌≡◌, refl, sym, subst, ◌∙◌}
-use borrow.Author.Tests.{ltb-false, ltb-true}
-use lib.Dec.{ltb}
 use Rattle.std.proofs.lemmas.Bool.Decides.{nat_tests}
 use Rattle.std.proofs.Common.{Option, Some, None}
-use Rattle.bools.proofs.Tests.{pick_elim}
 use Rattle.device.specs.declared.map.Register.{Register}
 use Rattle.device.specs.declared.map.Register.TheVariants.{Readout, Other, Control, Mode, Timeout, Key, Enable, Reload, Prepare, Recover, Input, Group, Word}
 use Rattle.device.specs.declared.map.Setting.{Setting}
@@ -14,7 +11,7 @@ use Rattle.device.specs.declared.map.Setting.TheVariants.{Mask, WatchdogTimeout,
 use Rattle.device.specs.declared.map.Status.{Status}
 use Rattle.device.specs.declared.map.Status.TheVariants.{Module, Negative, Positive, GateErrors, WatchdogErrors, GateInputs, GateOutputs, Outputs}
 use Rattle.device.specs.declared.map.Status.TheVariants.{GateStates, TagLow, TagHigh, Code, LoaderState, LoaderCounter, Count, Raw, Threshold}
-use Rattle.device.specs.Map.{backplane_map, below, control_map, counter_map, decode_of, event_map, status_map}
+use Rattle.device.specs.Map.{backplane_map, control_map, counter_map, decode_of, event_map, status_map}
 
 -- ---- the map from the registers' side
 
@@ -75,15 +72,12 @@ InMap (Group k) = k < 32
 InMap (Word i) = i < 16384
 InMap r = Unit
 
--- what stands at an address: nothing, or a register with that address
+-- what may stand at an address: nothing, or a register of the map with that address
 abbrev pub Placed : ℕ → Option Register → Type 0
 Placed a None = Unit
 Placed a (Some r) = InMap r × (address_of r ≡ a)
 
--- ---- a row of the map after the other
-
-row : (a edge : ℕ) (here rest : Option Register) → (a < edge → Placed a here) → (edge ≤ a → Placed a rest) → Placed a (below a edge here rest)
-row a edge here rest f g = pick_elim (Placed a) (ltb a edge) (λ e. f (ltb-true a edge e)) (λ e. g (ltb-false a edge e))
+-- ---- page by page
 
 backplane_placed : (a : ℕ) → Placed a (backplane_map a)
 unfolding backplane_map
@@ -100,9 +94,6 @@ control_placed a g = grind arith
 event_placed : (a : ℕ) → 0x0900 ≤ a → Placed a (event_map a)
 unfolding event_map
 event_placed a g = grind arith
-
-raster : (k : ℕ) → 32 * (k / 32) + k % 32 ≡ k
-raster k = omega arith
 
 counter_placed : (a : ℕ) → 0x1000 ≤ a → Placed a (counter_map a)
 unfolding counter_map
