@@ -4,6 +4,7 @@ ghost use Rattle.std.specs.Int.Signed.{mag};
 ghost use Rattle.counters.specs.Leap.{Ranged, count_after, counter_after, counter_leap, leap_counters};
 
 use crate::counter::Counter;
+
 // The count after so many rises of UP and of DOWN: a word of 32 bits that wraps.
 fn count_after(z: i32, ups: u32, downs: u32) -> i32
     ensures { result ≡ count_after z ups downs }

@@ -70,7 +70,7 @@ pub fn outputs(s: &Crate) -> u16
     words::from_bits(6, |o| ended[o].is_none())
 }
 
-// The scan of a crate whose memory is whole.
+// Of each output its level, and how many of its words are read to know it.
 pub fn scan_outputs(s: &Crate) -> [OutputScan; 6]
     ensures { result ≡ scanned s.now }
 {

@@ -41,8 +41,7 @@ impl Default for Request {
     }
 }
 
-// The first `waiting` places hold requests, the oldest first. It stays a list with its number: the value of an `ArrayVec` has the spare places
-// too, and no clause of its methods says what they hold, so no contract could be an equation with the definition.
+// The first `waiting` places hold requests, the oldest first.
 #[derive(Clone, Copy)]
 pub struct Queue {
     pub places: [Request; 16],

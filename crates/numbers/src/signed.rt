@@ -1,4 +1,4 @@
-// A count is a 32-bit number in two's complement, kept in two words of 16 bits.
+// A count is a 32-bit number in two's complement; registers and memory have such a number in two words of 16 bits.
 ghost use Rattle.std.specs.Prelude.{◌≡◌, pos, ◌+ℤ◌, ◌-ℤ◌};
 ghost use Rattle.std.specs.Int.Signed.{lt_z};
 ghost use Rattle.numbers.specs.Signed.{wrapped, joined, low_word, high_word};

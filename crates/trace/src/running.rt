@@ -16,7 +16,7 @@ use device::Crate;
 use lines::Levels;
 use records::{Record, Stop};
 
-// A leap costs about two ticks, so it is tried where more than that are left.
+// A leap costs about two ticks, so it is tried where at least twice that are left.
 const WORTH: u64 = 4;
 
 // What is left of so many ticks at the same levels, after a quiet stretch of them at once.
