@@ -6,11 +6,12 @@ use mathlib.Core.Bool.{false}
 use mathlib.Core.Logic.{inl}
 use mathlib.Core.Path.{◌≡◌, refl, ◌∙◌}
 use lib.Dec.{lit<}
-use Rattle.std.specs.Prelude.{unwrap_or}
+use Rattle.std.specs.Prelude.{Option, Some, None, unwrap_or}
+use Rattle.bools.proofs.Tests.{pick_ap}
 use Rattle.words.specs.Word.{field_of, nibble, put_of}
 use Rattle.words.proofs.Fields.{put_lt}
 use Rattle.words.proofs.Theorems.{other_nibble, put_then_other, put_then_same}
-use Rattle.patching.specs.Patching.{counter_count, gate_values, group_count, group_place, group_word_of, input_word_of, is_grouping, is_patch, no_word, selection_values}
+use Rattle.patching.specs.Patching.{counter_count, gate_values, group_answer, group_count, group_place, group_word_of, grouped, input_answer, input_word_of, is_grouping, is_patch, no_word, patched, selection_values}
 use Rattle.patching.proofs.input_word.Reads as input_word_reads
 use Rattle.patching.proofs.group_word.Reads as group_word_reads
 use Rattle.patching.proofs.Made.{made, placed}
@@ -77,9 +78,18 @@ pub group_none : (word counter group : ℕ) → is_grouping counter group ≡ fa
 unfolding group_word_of
 group_none word counter group e = rw e
 
--- what a caller learns from `input_word` and `group_word` is that they answer these words: a holds the arguments
-pub input_word_contract : input_word_reads.Learnt ≡ (λ κs a r s. unwrap_or r no_word ≡ input_word_of a.0 a.1.0 a.1.1.0)
+-- what the functions answer is that word, and none where there is none
+pub input_answered : (up down gate : ℕ) → unwrap_or (input_answer up down gate) no_word ≡ input_word_of up down gate
+unfolding input_answer input_word_of
+input_answered up down gate = pick_ap (λ (r : Option ℕ). unwrap_or r no_word) (is_patch up down gate) (Some (patched up down gate)) None
+
+pub group_answered : (word counter group : ℕ) → unwrap_or (group_answer word counter group) no_word ≡ group_word_of word counter group
+unfolding group_answer group_word_of
+group_answered word counter group = pick_ap (λ (r : Option ℕ). unwrap_or r no_word) (is_grouping counter group) (Some (grouped word counter group)) None
+
+-- what a caller learns from `input_word` and `group_word` is that they answer so: a holds the arguments
+pub input_word_contract : input_word_reads.Learnt ≡ (λ κs a r s. r ≡ input_answer a.0 a.1.0 a.1.1.0)
 input_word_contract = refl
 
-pub group_word_contract : group_word_reads.Learnt ≡ (λ κs a r s. unwrap_or r no_word ≡ group_word_of a.0 a.1.0 a.1.1.0)
+pub group_word_contract : group_word_reads.Learnt ≡ (λ κs a r s. r ≡ group_answer a.0 a.1.0 a.1.1.0)
 group_word_contract = refl

@@ -1,5 +1,5 @@
 -- The words that patch a counter: document 01, "Counters" and "Writes and event tags", and the Manual's tables of the bits of these registers.
-use Rattle.std.specs.Prelude.{ℕ, ◌*◌, ◌%◌, Bool, ◌&&◌, ltb}
+use Rattle.std.specs.Prelude.{ℕ, ◌*◌, ◌%◌, Bool, ◌&&◌, ltb, Option, Some, None}
 use Rattle.bools.specs.Pick.{pick}
 use Rattle.words.specs.Word.{put_of}
 
@@ -27,6 +27,10 @@ patched up down gate = put_of (put_of (put_of 0 0 6 up) 6 6 down) 12 4 gate
 unfoldable pub input_word_of : ℕ → ℕ → ℕ → ℕ
 input_word_of up down gate = pick (is_patch up down gate) (patched up down gate) no_word
 
+-- the same as the code has it: none where there is no word
+unfoldable pub input_answer : ℕ → ℕ → ℕ → Option ℕ
+input_answer up down gate = pick (is_patch up down gate) (Some (patched up down gate)) None
+
 -- ---- a group register, 0x1600 + n div 4
 
 -- the Manual: "a pool of 128 up/down counter modules"
@@ -50,3 +54,6 @@ grouped word counter group = put_of word (4 * group_place counter) 4 group
 
 unfoldable pub group_word_of : ℕ → ℕ → ℕ → ℕ
 group_word_of word counter group = pick (is_grouping counter group) (grouped word counter group) no_word
+
+unfoldable pub group_answer : ℕ → ℕ → ℕ → Option ℕ
+group_answer word counter group = pick (is_grouping counter group) (Some (grouped word counter group)) None

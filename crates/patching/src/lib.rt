@@ -1,8 +1,8 @@
 // The words that patch a counter, for users who write registers: of its input register, and of a group register with its group.
 #![tactic(auto)]
 
-ghost use Rattle.std.specs.Prelude.{◌≡◌, unwrap_or};
-ghost use Rattle.patching.specs.Patching.{group_place, group_word_of, input_word_of, no_word};
+ghost use Rattle.std.specs.Prelude.{◌≡◌};
+ghost use Rattle.patching.specs.Patching.{group_answer, group_place, input_answer};
 
 use words::Selection;
 
@@ -17,9 +17,9 @@ const COUNTERS: u16 = 128;
 const GROUPS: u16 = 16;
 
 // The word of an input register with these selections and this gate. None where one of them is too large for its field.
-#[tactic(auto, using(crate::proofs::Made::selected), unfolding(crate::specs::Patching::input_word_of))]
+#[tactic(auto, using(crate::proofs::Made::selected), unfolding(crate::specs::Patching::input_answer))]
 pub fn input_word(up: u16, down: u16, gate: u16) -> Option<u16>
-    ensures { unwrap_or result no_word ≡ input_word_of up down gate }
+    ensures { result ≡ input_answer up down gate }
 {
     if up < SELECTION_VALUES && down < SELECTION_VALUES && gate < GATE_VALUES {
         Some(Selection { up, down, gate }.put(0))
@@ -37,9 +37,9 @@ fn group_place(counter: u16) -> u32
 
 // The word of a counter's group register with this group for the counter; the other three counters' groups are those of `word`.
 // None where there is no such counter or group.
-#[tactic(auto, unfolding(crate::specs::Patching::group_word_of))]
+#[tactic(auto, unfolding(crate::specs::Patching::group_answer))]
 pub fn group_word(word: u16, counter: u16, group: u16) -> Option<u16>
-    ensures { unwrap_or result no_word ≡ group_word_of word counter group }
+    ensures { result ≡ group_answer word counter group }
 {
     if counter < COUNTERS && group < GROUPS {
         Some(words::put_nibble(word, group_place(counter), group))

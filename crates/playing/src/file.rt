@@ -1,5 +1,5 @@
 // Traces in files, played to a crate.
-ghost use Rattle.std.specs.Prelude.{◌≡◌};
+ghost use Rattle.std.specs.Prelude.{◌≡◌, ◌≤◌, IfSome, length};
 ghost use Rattle.device.specs.State.{machine};
 ghost use Rattle.playing.specs.Often.{ran_often};
 
@@ -22,8 +22,10 @@ pub fn open_file<R: Files + Eprint>(rt: &R, file: &[u8]) -> Option<R::File> {
     }
 }
 
-// The bytes of a file, as many as the buffer holds, if it can be opened.
-pub fn load<'a, R: Files + Eprint>(rt: &R, file: &[u8], buf: &'a mut [u8]) -> Option<&'a [u8]> {
+// The bytes of a file, as many as the buffer holds, if it can be opened. Of what they are no contract can speak.
+pub fn load<'a, R: Files + Eprint>(rt: &R, file: &[u8], buf: &'a mut [u8]) -> Option<&'a [u8]>
+    ensures { IfSome result (λ trace. length trace.now ≤ length buf.old) }
+{
     let mut opened = open_file(rt, file)?;
     let n = standard_input::read_input(&mut opened, buf).unwrap_or_else(|e| e.length);
     Some(&buf[..n])
