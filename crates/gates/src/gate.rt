@@ -277,13 +277,12 @@ pub fn gate_bits<F: Fn(Gate) -> bool>(gates: &[Gate; 12], bit: F) -> u16
     words::from_bits(12, |i| bit(gates[i]))
 }
 
-// The states of gates 4 k to 4 k + 3, four bits each.
-pub fn state_word(gates: &[Gate; 12], k: usize) -> u16
-    requires { k < 3 }
+// The states of gates 4 k to 4 k + 3, four bits each; past the last gate 0.
+pub fn state_word(gates: &[Gate; 12], k: u16) -> u16
     ensures { result ≡ state_word gates.now k }
 {
     words::from_fields(4, 4, |i| {
-        let g = gates[4 * k + i];
-        g.state.number()
+        let g = 4 * usize::from(k) + i;
+        if g < 12 { gates[g].state.number() } else { 0 }
     })
 }

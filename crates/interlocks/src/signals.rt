@@ -2,6 +2,7 @@
 ghost use Rattle.std.specs.Prelude.{◌≡◌};
 ghost use Rattle.interlocks.specs.Interlock.{low_gates, meets, signals};
 
+use counters::Counter;
 use device::{Crate, Rest};
 use gates::Gate;
 
@@ -18,10 +19,10 @@ pub fn signals(s: &Crate, k: usize) -> u16
     ensures { result ≡ signals s.now k }
 {
     match k {
-        0x00..=0x07 => counters::overflow_word(&s.counters, false, k),
-        0x08..=0x0F => counters::overflow_word(&s.counters, true, k - 0x08),
+        0x00..=0x07 => counters::overflow_word(&s.counters, k as u16, Counter::is_under),
+        0x08..=0x0F => counters::overflow_word(&s.counters, (k - 0x08) as u16, Counter::is_over),
         0x10 => gates::gate_bits(&s.gates, Gate::failed),
-        0x11..=0x14 => watchdogs::error_word(&s.rest.watchdogs, k - 0x11),
+        0x11..=0x14 => watchdogs::error_word(&s.rest.watchdogs, (k - 0x11) as u16),
         _ => low_gates(&s.rest),
     }
 }

@@ -1,10 +1,9 @@
 // The word that a read of each register gives.
 ghost use Rattle.std.specs.Prelude.{◌≡◌, true, false, get_or};
 ghost use Rattle.bools.specs.Pick.{pick};
-ghost use Rattle.counters.specs.Counter.{counter_at, is_out, overflow_word};
-ghost use Rattle.gates.specs.Gate.{gate_at, state_word};
+ghost use Rattle.counters.specs.Counter.{counter_at};
+ghost use Rattle.gates.specs.Gate.{gate_at};
 ghost use Rattle.loader.specs.Loader.{busy};
-ghost use Rattle.watchdogs.specs.Watchdog.{flag_of, watchdog_word};
 ghost use Rattle.reading.specs.Read.{module_id, module_word, low_first, half_of, threshold_of, status_word, setting_word, word_in};
 ghost use Rattle.device.specs.State.{machine};
 
@@ -12,7 +11,6 @@ use counters::Counter;
 use device::{Crate, Register, Setting, Status};
 use gates::Gate;
 use loader::Reload;
-use watchdogs::Watchdog;
 
 // Element i, and 0 past the end.
 fn at(xs: &[u16], i: u16) -> u16
@@ -81,50 +79,6 @@ fn threshold(j: u16, c: Counter) -> i32
     if j < 2 { c.positive } else { c.negative }
 }
 
-// Register k of an overflow block; past the block 0.
-#[tactic(auto, using(crate::proofs::Past::overflows_past))]
-fn overflows(counters: &[Counter; 128], positive: bool, k: u16) -> u16
-    ensures { result ≡ overflow_word (is_out positive) counters.now k }
-{
-    if 8 <= k {
-        return 0;
-    }
-    counters::overflow_word(counters, positive, k as usize)
-}
-
-// Register k of the error block; past the block 0.
-#[tactic(auto, using(crate::proofs::Past::errors_past))]
-fn watchdog_errors(watchdogs: &[Watchdog; 54], k: u16) -> u16
-    ensures { result ≡ watchdog_word (flag_of true) watchdogs.now k }
-{
-    if 4 <= k {
-        return 0;
-    }
-    watchdogs::error_word(watchdogs, k as usize)
-}
-
-// Register k of the reset block; past the block 0.
-#[tactic(auto, using(crate::proofs::Past::resets_past))]
-fn watchdog_resets(watchdogs: &[Watchdog; 54], k: u16) -> u16
-    ensures { result ≡ watchdog_word (flag_of false) watchdogs.now k }
-{
-    if 4 <= k {
-        return 0;
-    }
-    watchdogs::reset_word(watchdogs, k as usize)
-}
-
-// Register k of the gate states; past the block 0.
-#[tactic(auto, using(crate::proofs::Past::states_past))]
-fn gate_states(gates: &[Gate; 12], k: u16) -> u16
-    ensures { result ≡ state_word gates.now k }
-{
-    if 3 <= k {
-        return 0;
-    }
-    gates::state_word(gates, k as usize)
-}
-
 // 3 while the loader is busy.
 fn loader_state(loader: Option<Reload>) -> u16
     ensures { result ≡ pick (busy loader) 3 0 }
@@ -140,14 +94,14 @@ fn status_word(s: &Crate, r: Status) -> u16
     let events = s.rest.events;
     match r {
         Status::Module(k) => module_word(k),
-        Status::Negative(k) => overflows(&s.counters, false, k),
-        Status::Positive(k) => overflows(&s.counters, true, k),
+        Status::Negative(k) => counters::overflow_word(&s.counters, k, Counter::is_under),
+        Status::Positive(k) => counters::overflow_word(&s.counters, k, Counter::is_over),
         Status::GateErrors => gates::gate_bits(&s.gates, Gate::failed),
-        Status::WatchdogErrors(k) => watchdog_errors(&s.rest.watchdogs, k),
+        Status::WatchdogErrors(k) => watchdogs::error_word(&s.rest.watchdogs, k),
         Status::GateInputs => s.rest.gatelevels,
         Status::GateOutputs => gates::gate_bits(&s.gates, |g| g.output),
         Status::Outputs => interlocks::outputs(s),
-        Status::GateStates(k) => gate_states(&s.gates, k),
+        Status::GateStates(k) => gates::state_word(&s.gates, k),
         Status::TagLow => events.low,
         Status::TagHigh => events.high,
         Status::Code => events.code,
@@ -170,7 +124,7 @@ fn setting_word(s: &Crate, r: Setting) -> u16
     match r {
         Setting::Mask(k) => at(&s.rest.masks, k),
         Setting::WatchdogTimeout => s.rest.timeout,
-        Setting::WatchdogReset(k) => watchdog_resets(&s.rest.watchdogs, k),
+        Setting::WatchdogReset(k) => watchdogs::reset_word(&s.rest.watchdogs, k),
         Setting::Selection(j) => at(&s.rest.selections, j),
     }
 }
