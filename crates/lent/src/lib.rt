@@ -10,7 +10,7 @@ use sums::Sliding;
 const DONE: u16 = 0;
 
 // Something lent has the wrong length.
-const BAD_BUFFER: u16 = 255;
+pub const BAD_BUFFER: u16 = 255;
 
 // A state as three words: window, place, and the sum in two's complement.
 fn words_of(state: Sliding) -> [u64; 3]

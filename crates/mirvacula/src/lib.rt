@@ -2,7 +2,7 @@
 // numbers; a capture as a trace; the words that patch a counter; sliding sums.
 #![tactic(auto)]
 
-ghost use Rattle.std.specs.Prelude.{false, ◌≡◌, eqb, ◌<◌, get_or, length};
+ghost use Rattle.std.specs.Prelude.{false, ◌≡◌, eqb};
 ghost use Rattle.bools.specs.Pick.{pick};
 ghost use Rattle.captures.specs.Captures.{frame_in};
 ghost use Rattle.device.specs.State.{machine};
@@ -10,8 +10,7 @@ ghost use Rattle.mirvacula.specs.Converting.{answered, convert_of, unanswered};
 ghost use Rattle.lent.specs.Lent.{bad_buffer};
 ghost use Rattle.lent.specs.Sums.{lent_sample, lent_start, sum_sample_of, sum_start_of};
 ghost use Rattle.patching.specs.Patching.{group_word_of, input_word_of};
-ghost use Rattle.mirvacula.specs.Exported.{exported, export_of, image_of, image_words, output_numbers, report_of, report_words, run_on};
-ghost use Rattle.mirvacula.specs.Exported.{scan_export_of, scan_words, stop_code};
+ghost use Rattle.mirvacula.specs.Exported.{exported, export_of, image_of, output_numbers, report_of, run_on, scan_export_of, stop_code};
 ghost use Rattle.records.specs.declared.Stop.TheVariants.{Memory};
 ghost use Rattle.records.specs.Stops.{stop_number};
 ghost use Rattle.trace.specs.Run.{progress_of, run as run_run};
@@ -19,6 +18,7 @@ ghost use Rattle.trace.specs.Run.{progress_of, run as run_run};
 use captures::Refusal;
 use device::Crate;
 use interlocks::OutputScan;
+use lent::BAD_BUFFER;
 use records::Stop;
 use trace::Report;
 
@@ -33,47 +33,35 @@ fn stop_code(stop: Stop) -> u16
 }
 
 // The report as five numbers.
-fn put_report(out: &mut [u64], report: Report)
-    requires { length out.old ≡ report_words }
+fn put_report(out: &mut [u64; 5], report: Report)
     ensures { out.new ≡ report_of report }
 {
-    out[0] = u64::from(stop_code(report.stop));
-    out[1] = report.next as u64;
-    out[2] = report.ticks;
-    out[3] = report.records as u64;
-    out[4] = report.refused as u64;
+    *out = [
+        u64::from(stop_code(report.stop)),
+        report.next as u64,
+        report.ticks,
+        report.records as u64,
+        report.refused as u64,
+    ];
 }
 
 // The words of the registers from 0x0600 on: 0 where a read is refused.
-fn put_image(out: &mut [u16], state: &Crate, mem: &[u16])
-    requires { length out.old ≡ image_words }
+#[tactic(auto, unfolding(crate::specs::Exported::image_of, lists::specs::Table::each))]
+fn put_image(out: &mut [u16; 0x1400], state: &Crate, mem: &[u16])
     ensures { out.new ≡ image_of (machine state.now mem.now) }
 {
-    for k in 0..0x1400u16 {
-        out[k as usize] = registers::read(state, mem, 0x0600 + k).unwrap_or(0);
-    }
+    lists::step_each(out, |k, _| {
+        registers::read(state, mem, 0x0600 + k as u16).unwrap_or(0)
+    });
 }
 
-// Number k of a scan: the six levels, then the six numbers of words read.
-fn scan_number(outputs: &[OutputScan; 6], k: usize) -> u16
-    requires { k < scan_words }
-    ensures { result ≡ get_or (output_numbers outputs.now) k 0 }
-{
-    if k < 6 {
-        u16::from(outputs[k].level)
-    } else {
-        outputs[k - 6].words
-    }
-}
-
-// The scan as twelve numbers.
-fn put_scan(out: &mut [u16], outputs: &[OutputScan; 6])
-    requires { length out.old ≡ scan_words }
+// The scan as twelve numbers: the six levels, then the six numbers of words read.
+fn put_scan(out: &mut [u16; 12], outputs: &[OutputScan; 6])
     ensures { out.new ≡ output_numbers outputs.now }
 {
-    for k in 0..12 {
-        out[k] = scan_number(outputs, k);
-    }
+    let (levels, words) = out.split_at_mut(6);
+    levels.copy_from_slice(&outputs.map(|x| u16::from(x.level)));
+    words.copy_from_slice(&outputs.map(|x| x.words));
 }
 
 // A report, an image or a scan of the wrong length; a memory of the wrong length comes first. Numbers, as the C interface needs them.
@@ -81,7 +69,11 @@ fn put_scan(out: &mut [u16], outputs: &[OutputScan; 6])
 fn misfit_code(words: usize) -> u16
     ensures { result ≡ pick (eqb words 16384) bad_buffer (stop_number Memory) }
 {
-    if words == 16384 { 255 } else { 1 }
+    if words == 16384 {
+        BAD_BUFFER
+    } else {
+        u16::from(Stop::Memory)
+    }
 }
 
 // The outputs of a scan that is refused: the C interface has numbers alone, and these are zeros.
@@ -92,8 +84,12 @@ const REFUSED: [OutputScan; 6] = [OutputScan {
 
 // Runs a trace from power-up and fills in its report: the crate that it leaves, and the report.
 #[tactic(auto, unfolding(crate::specs::Exported::run_on))]
-fn run_and_report(mem: &mut [u16], bytes: &[u8], budget: u64, report: &mut [u64]) -> (Crate, Report)
-    requires { length report.old ≡ report_words }
+fn run_and_report(
+    mem: &mut [u16],
+    bytes: &[u8],
+    budget: u64,
+    report: &mut [u64; 5],
+) -> (Crate, Report)
     ensures { (run_run (progress_of result.0 result.1 false) mem.new ≡ run_on mem.old bytes.now budget) × (report.new ≡ report_of result.1) }
 {
     // a memory that power-up refuses stops the run too
@@ -116,9 +112,12 @@ pub extern "C" fn mirvacula_run(
 ) -> u16
     ensures { exported result mem.new report.new image.new ≡ export_of mem.old bytes.now budget report.old image.old }
 {
-    if !bools::both(report.len() == 5, image.len() == 0x1400) {
+    let Some(report) = report.as_mut_array() else {
         return misfit_code(mem.len());
-    }
+    };
+    let Some(image) = image.as_mut_array() else {
+        return misfit_code(mem.len());
+    };
     let (state, told) = run_and_report(mem, bytes, budget, report);
     put_image(image, &state, mem);
     stop_code(told.stop)
@@ -137,9 +136,12 @@ pub extern "C" fn mirvacula_scan(
 ) -> u16
     ensures { exported result mem.new report.new outputs.new ≡ scan_export_of mem.old bytes.now budget report.old outputs.old }
 {
-    if !bools::both(report.len() == 5, outputs.len() == 12) {
+    let Some(report) = report.as_mut_array() else {
         return misfit_code(mem.len());
-    }
+    };
+    let Some(outputs) = outputs.as_mut_array() else {
+        return misfit_code(mem.len());
+    };
     let (state, told) = run_and_report(mem, bytes, budget, report);
     let scan = registers::scan(&state, mem).unwrap_or(REFUSED);
     put_scan(outputs, &scan);
@@ -151,7 +153,11 @@ pub extern "C" fn mirvacula_scan(
 fn unanswered_code(bytes: usize) -> u16
     ensures { result ≡ unanswered bytes }
 {
-    if bytes % 9 == 0 { 255 } else { 12 }
+    if bytes % 9 == 0 {
+        BAD_BUFFER
+    } else {
+        Refusal::NotFrames.number()
+    }
 }
 
 // The frame that the answer has: that of refusal 6, else 0.
@@ -167,18 +173,18 @@ fn frame_in(why: Refusal) -> u64
 // A capture becomes a trace. The answer is the length of the trace in bytes and, of a refusal by 6, the frame: numbers, as the C interface has no
 // enums with fields. Nothing is done where the answer is not of 2 numbers.
 #[unsafe(no_mangle)]
+#[tactic(auto, unfolding(crate::specs::Converting::convert_of))]
 pub extern "C" fn mirvacula_convert(capture: &[u8], out: &mut [u8], answer: &mut [u64]) -> u16
     ensures { answered result out.new answer.new ≡ convert_of capture.now out.old answer.old }
 {
-    if answer.len() != 2 {
+    let Some(answer) = answer.as_mut_array() else {
         return unanswered_code(capture.len());
-    }
+    };
     let (number, length, frame) = match captures::convert(capture, out) {
         Ok(bytes) => (0, bytes as u64, 0),
         Err(why) => (why.number(), 0, frame_in(why)),
     };
-    answer[0] = length;
-    answer[1] = frame;
+    *answer = [length, frame];
     number
 }
 
