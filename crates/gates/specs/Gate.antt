@@ -154,7 +154,6 @@ with_prepare_pulse b g = gate_with g g.timeout g.mode g.prepare g.recover (g.pre
 abbrev pub with_recover_pulse : Bool → Gate → Gate
 with_recover_pulse b g = gate_with g g.timeout g.mode g.prepare g.recover g.preparepulse (g.recoverpulse || b)
 
--- the changes that all gates can make, each by a bit of its own
 -- all twelve gates, gate g by bit g of a word
 unfoldable pub each_gate : (Bool → Gate → Gate) → ℕ → List Gate → List Gate
 each_gate f w gates = each gate_count gate0 (λ i. f (bit w i)) gates
