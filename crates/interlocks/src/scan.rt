@@ -11,7 +11,8 @@ use crate::signals::{meet, signals};
 use device::Crate;
 use std::array;
 
-// What a scan tells of an output: its level, and how many of its selection words were read.
+// What a scan tells of an output: its level, and how many of its selection words were read. Both, as request 3 asks for both of every output,
+// also of one that is 1, where an Option would have none.
 #[derive(Clone, Copy)]
 pub struct OutputScan {
     pub level: bool,

@@ -21,7 +21,8 @@ impl From<BadSum> for u16 {
 
 const LARGEST_WINDOW: usize = 65536;
 
-// The window W, the place of the oldest sample in the ring, and the sum. The default has no window, so no sample is taken on it.
+// The window W, the place of the oldest sample in the ring, and the sum. The default has no window, so no sample is taken on it. The ring stays
+// beside it: the C interface lends it anew with every call.
 #[derive(Clone, Copy, Debug, Default, PartialEq, Eq)]
 pub struct Sliding {
     pub window: usize,
