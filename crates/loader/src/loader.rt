@@ -7,7 +7,7 @@ use counters::Counter;
 use std::array;
 use words::Field;
 
-#[derive(Clone, Copy)]
+#[derive(Clone, Copy, Default)]
 pub struct Request {
     pub dataset: u16,
     pub group: u16,
@@ -18,25 +18,14 @@ const DATASET: Field = Field { at: 0, width: 8 };
 
 const GROUP: Field = Field { at: 8, width: 4 };
 
-impl Request {
-    // The request that a word names: dataset in bits 7-0, group in bits 11-8.
-    pub fn of(w: u16) -> Request
-        ensures { result ≡ request_for (field_of w 0 8) (field_of w 8 4) }
-    {
+// The request that a word names: dataset in bits 7-0, group in bits 11-8.
+impl From<u16> for Request {
+    ghost from_gives = { λ w r. r ≡ request_for (field_of w 0 8) (field_of w 8 4) };
+
+    fn from(w: u16) -> Request {
         Request {
             dataset: DATASET.of(w),
             group: GROUP.of(w),
-        }
-    }
-}
-
-impl Default for Request {
-    ghost is_default = { λ r. r ≡ request0 };
-
-    fn default() -> Request {
-        Request {
-            dataset: 0,
-            group: 0,
         }
     }
 }

@@ -56,7 +56,7 @@ fn command(s: &mut Crate, t: u32) -> Result<(), Refusal>
 {
     let code = code_of(t);
     match command_of(t) {
-        1 => return writing::request(&mut s.common, Request::of(code)),
+        1 => return writing::request(&mut s.common, Request::from(code)),
         2 => gates::change_gates(&mut s.gates, code, Gate::pulse_prepare),
         3 => gates::change_gates(&mut s.gates, code, Gate::pulse_recover),
         4 => counters::clear_counters(&mut s.counters),

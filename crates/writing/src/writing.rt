@@ -53,7 +53,7 @@ fn write_reload(cm: &mut Common, word: u16) -> Result<(), Refusal>
     ensures { (result ≡ reload_answer word cm.old) × (cm.new ≡ reload_write word cm.old) }
 {
     if triggers(word, cm) {
-        request(cm, Request::of(word))?;
+        request(cm, Request::from(word))?;
     }
     cm.reload = word % 8192;
     Ok(())
