@@ -1,9 +1,17 @@
 // Counters over so many ticks at once, with their gates' outputs unchanged.
 ghost use Rattle.std.specs.Prelude.{◌≡◌, ◌^◌, ◌<◌, get_or};
 ghost use Rattle.std.specs.Int.Signed.{mag};
-ghost use Rattle.counters.specs.Leap.{Ranged, count_after, counter_after, counter_leap, leap_counters};
+ghost use Rattle.counters.specs.Leap.{Ranged, count_after, counter_after, leap_counters};
 
 use crate::counter::Counter;
+
+// What a stretch of ticks brings to all counters: register 0x0801, the rises of each selection value, and the gate outputs.
+#[derive(Drop)]
+pub struct Stretch {
+    pub control: u16,
+    pub rises: [u32; 64],
+    pub is: u16,
+}
 
 // The count after so many rises of UP and of DOWN: a word of 32 bits that wraps.
 fn count_after(z: i32, ups: u32, downs: u32) -> i32
@@ -15,37 +23,27 @@ fn count_after(z: i32, ups: u32, downs: u32) -> i32
         .cast_signed()
 }
 
-// A counter held at 0, or with its gate open, or shut.
-#[tactic(auto, unfolding(crate::specs::Leap::counter_leap))]
-fn counter_leap(mut c: Counter, hold: bool, opened: bool, ups: u32, downs: u32) -> Counter
-    ensures { result ≡ counter_leap c hold opened ups downs }
+// A counter k ticks on: held at 0 by RESET; else with its gate open it counts. Its count was one of 32 bits.
+#[tactic(auto, unfolding(crate::specs::Leap::counter_after, crate::specs::Leap::counter_leap))]
+fn counter_after(mut c: Counter, stretch: &Stretch) -> Counter
+    ensures { (result ≡ counter_after stretch.now.control (λ u. get_or stretch.now.rises u 0) stretch.now.is c) × (mag c.count < 2 ^ 31) }
 {
-    if hold {
+    if words::bit(u64::from(stretch.control), 0) {
         return c.clear();
     }
-    if opened {
+    let selection = words::Selection::of(c.input);
+    if words::bit(u64::from(stretch.is), u32::from(selection.gate)) {
+        let ups = stretch.rises[usize::from(selection.up)];
+        let downs = stretch.rises[usize::from(selection.down)];
         c.count = count_after(c.count, ups, downs);
     }
     c
 }
 
-// A counter by register 0x0801, the rises of each selection value and the gate outputs. Its count was one of 32 bits.
-#[tactic(auto, unfolding(crate::specs::Leap::counter_after))]
-fn counter_after(c: Counter, control: u16, rises: &[u32; 64], is: u16) -> Counter
-    ensures { (result ≡ counter_after control (λ u. get_or rises.now u 0) is c) × (mag c.count < 2 ^ 31) }
-{
-    let selection = words::Selection::of(c.input);
-    let hold = words::bit(control as u64, 0);
-    let opened = words::bit(is as u64, selection.gate as u32);
-    let ups = rises[selection.up as usize];
-    let downs = rises[selection.down as usize];
-    counter_leap(c, hold, opened, ups, downs)
-}
-
 // All counters. Their counts were of 32 bits.
 #[tactic(auto, unfolding(crate::specs::Leap::leap_counters))]
-pub fn leap_counters(counters: &mut [Counter; 128], control: u16, rises: &[u32; 64], is: u16)
-    ensures { (counters.new ≡ leap_counters control (λ u. get_or rises.now u 0) is counters.old) × Ranged counters.old 128 }
+pub fn leap_counters(counters: &mut [Counter; 128], stretch: &Stretch)
+    ensures { (counters.new ≡ leap_counters stretch.now.control (λ u. get_or stretch.now.rises u 0) stretch.now.is counters.old) × Ranged counters.old 128 }
 {
-    lists::step_each(counters, |_, c| counter_after(c, control, rises, is));
+    lists::step_each(counters, |_, c| counter_after(c, stretch));
 }

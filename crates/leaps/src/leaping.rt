@@ -3,6 +3,7 @@ ghost use Rattle.std.specs.Prelude.{◌≡◌, min, length};
 ghost use Rattle.leaps.specs.Leap.{Formed, leap_common, leap_of, leap_rest, stretch_of};
 ghost use Rattle.leaps.specs.Leap.{quiet as leap_quiet};
 
+use counters::Stretch;
 use device::{Common, Crate, Rest};
 use lines::Levels;
 
@@ -27,9 +28,12 @@ fn leap_rest(rest: &mut Rest, k: u32, gatelevels: u16)
 pub fn leap(s: &mut Crate, k: u32, gatelevels: u16)
     ensures { (s.new ≡ leap_of k s.old gatelevels) × Formed s.old }
 {
-    let rises = lines::rises_in(&s.common.phases, k);
-    let is = gates::gate_bits(&s.gates, |g| g.output);
-    counters::leap_counters(&mut s.counters, s.common.control, &rises, is);
+    let stretch = Stretch {
+        control: s.common.control,
+        rises: lines::rises_in(&s.common.phases, k),
+        is: gates::gate_bits(&s.gates, |g| g.output),
+    };
+    counters::leap_counters(&mut s.counters, &stretch);
     gate_leaps::leap_gates(&mut s.gates, k);
     leap_common(&mut s.common, k);
     leap_rest(&mut s.rest, k, gatelevels);
