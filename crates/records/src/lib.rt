@@ -4,6 +4,7 @@
 ghost use Rattle.std.specs.Prelude.{◌≡◌};
 ghost use Rattle.records.specs.Stops.{stop_number};
 
+mod kind;
 mod records;
 
 use lines::Levels;

@@ -1,0 +1,17 @@
+-- Document 01, "Trace and printing program": the kinds of records.
+use Rattle.std.specs.Prelude.{ℕ, List, Err, ltb, length}
+use Rattle.bools.specs.Pick.{pick}
+use Rattle.records.specs.declared.Stop.TheVariants.{Cut}
+use Rattle.records.specs.declared.kind.Kind.{Kind}
+use Rattle.records.specs.declared.kind.Kind.TheVariants.{Ticks, Write, Tag}
+use Rattle.records.specs.Records.{Found, payload_at, payload_bytes}
+
+-- its tag byte
+abbrev pub tag_of : Kind → ℕ
+tag_of Ticks = 1
+tag_of Write = 2
+tag_of Tag = 3
+
+-- a payload that may be cut
+abbrev pub read_of : Kind → List ℕ → Found
+read_of kind t = pick (ltb (length t) (payload_bytes (tag_of kind))) (Err Cut) (payload_at (tag_of kind) t 0)
