@@ -28,11 +28,11 @@ fn count_after(z: i32, ups: u32, downs: u32) -> i32
 fn counter_after(mut c: Counter, stretch: &Stretch) -> Counter
     ensures { (result ≡ counter_after stretch.now.control (λ u. get_or stretch.now.rises u 0) stretch.now.is c) × (mag c.count < 2 ^ 31) }
 {
-    if words::bit(u64::from(stretch.control), 0) {
+    if words::bit(stretch.control, 0) {
         return c.clear();
     }
     let selection = words::Selection::of(c.input);
-    if words::bit(u64::from(stretch.is), u32::from(selection.gate)) {
+    if words::bit(stretch.is, usize::from(selection.gate)) {
         let ups = stretch.rises[usize::from(selection.up)];
         let downs = stretch.rises[usize::from(selection.down)];
         c.count = count_after(c.count, ups, downs);

@@ -60,7 +60,7 @@ pub fn steady_gates(gates: &[Gate; 12], k: u32, levels: u16) -> bool
     ensures { result ≡ steady_gates k levels gates.now }
 {
     for (i, g) in gates.iter().enumerate() {
-        if !steady(k, words::bit(levels as u64, i as u32), *g) {
+        if !steady(k, words::bit(levels, i), *g) {
             return false;
         }
     }

@@ -266,7 +266,7 @@ pub fn change_gates<F: Fn(Gate, bool) -> Gate>(gates: &mut [Gate; 12], w: u16, c
     requires { F.IsAlwaysCallable change }
     ensures { (f : Bool → Gate → Gate) → ((g : Gate) (b : Bool) (next : Gate) → F.post change g b next → next ≡ f b g) → gates.new ≡ each_gate f w gates.old }
 {
-    lists::step_each(gates, |i, g| change(g, words::bit(w as u64, i as u32)));
+    lists::step_each(gates, |i, g| change(g, words::bit(w, i)));
 }
 
 // A bit of each gate as a word, gate 0 lowest.

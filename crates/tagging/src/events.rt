@@ -35,7 +35,7 @@ fn command_of(t: u32) -> u16
 fn events_on(cm: &Common) -> bool
     ensures { result ≡ events_on cm.now }
 {
-    words::bit(cm.enable as u64, 0)
+    words::bit(cm.enable, 0)
 }
 
 // 0x0900 and 0x0901 take the tag, and with the right key 0x0902 its code.

@@ -44,7 +44,7 @@ pub fn request(cm: &mut Common, request: Request) -> Result<(), Refusal>
 fn triggers(word: u16, cm: &Common) -> bool
     ensures { result ≡ triggers word cm.now }
 {
-    words::bit(word as u64, 12) && !words::bit(cm.reload as u64, 12)
+    words::bit(word, 12) && !words::bit(cm.reload, 12)
 }
 
 // A write to 0x0A02: a refused request stores nothing.
@@ -94,7 +94,7 @@ fn write_control(s: &mut Crate, word: u16)
     ensures { s.new ≡ with_common (with_counters s.old (reset_by word s.old.counters)) (control_write word s.old.common) }
 {
     s.common.control = word % 4;
-    if words::bit(word as u64, 0) {
+    if words::bit(word, 0) {
         counters::clear_counters(&mut s.counters);
     }
 }

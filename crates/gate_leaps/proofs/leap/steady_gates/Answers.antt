@@ -17,14 +17,14 @@ pub returns-then-not-steady : goal.returns-then-not-steady
 unfolding steady_gates gate_at
 returns-then-not-steady c =
     let a = c.args in
-    let e = rw c.bit.ensures at c.steady.ensures in
+    let e = rw (c.bit.ensures.2, c.bit.ensures.1) at c.steady.ensures in
     rw (any_found 12 (λ g. not (steady a.k (bit a.levels g) (gate_at a.gates.now g))) c.loop-i.i (omega arith) (ap not (sym e ∙ c.if-not-steady.true)))
 
 pub loop-i-preserved : goal.loop-i-preserved
 unfolding gate_at
 loop-i-preserved c =
     let a = c.args in
-    let e = rw c.bit.ensures at c.steady.ensures in
+    let e = rw (c.bit.ensures.2, c.bit.ensures.1) at c.steady.ensures in
     any_more c.loop-i.i (λ g. not (steady a.k (bit a.levels g) (gate_at a.gates.now g))) c.loop-i.invariant (ap not (sym e ∙ c.if-not-steady.false))
 
 pub returns : goal.returns
