@@ -1,8 +1,6 @@
 // The word that a read of each register gives.
 ghost use Rattle.std.specs.Prelude.{◌≡◌, true, false, get_or};
 ghost use Rattle.bools.specs.Pick.{pick};
-ghost use Rattle.counters.specs.Counter.{counter_at};
-ghost use Rattle.gates.specs.Gate.{gate_at};
 ghost use Rattle.loader.specs.Loader.{busy};
 ghost use Rattle.reading.specs.Read.{module_id, module_word, low_first, half_of, threshold_of, status_word, setting_word, word_in};
 ghost use Rattle.device.specs.State.{machine};
@@ -12,11 +10,11 @@ use device::{Crate, Register, Setting, Status};
 use gates::Gate;
 use loader::Reload;
 
-// Element i, and 0 past the end.
-fn at(xs: &[u16], i: u16) -> u16
-    ensures { result ≡ get_or xs.now i 0 }
+// Element i; past the end one as at power-up, the one default of its type.
+fn at<T: Copy + Default>(xs: &[T], i: u16) -> T
+    ensures { (d : T) → ((e : T) → T.is_default e → e ≡ d) → result ≡ get_or xs.now i d }
 {
-    xs.get(i as usize).copied().unwrap_or(0)
+    xs.get(usize::from(i)).copied().unwrap_or_default()
 }
 
 // The module in a slot.
@@ -36,22 +34,6 @@ fn module_word(k: u16) -> u16
     ensures { result ≡ module_word k }
 {
     words::from_fields(2, 8, |j| module_id(2 * usize::from(k) + j))
-}
-
-// Counter n; past the bank one as at power-up.
-#[tactic(auto, unfolding(counters::specs::Counter::counter_at))]
-fn counter_at(counters: &[Counter; 128], n: u16) -> Counter
-    ensures { result ≡ counter_at counters.now n }
-{
-    counters.get(n as usize).copied().unwrap_or_default()
-}
-
-// Gate g; past the twelve one as at power-up.
-#[tactic(auto, unfolding(gates::specs::Gate::gate_at))]
-fn gate_at(gates: &[Gate; 12], g: u16) -> Gate
-    ensures { result ≡ gate_at gates.now g }
-{
-    gates.get(g as usize).copied().unwrap_or_default()
 }
 
 // Word j of a 32-bit number, low word first.
@@ -87,7 +69,7 @@ fn loader_state(loader: Option<Reload>) -> u16
 }
 
 // The word of a read-only register; past the inputs a raw count is 0.
-#[tactic(auto, unfolding(crate::specs::Read::status_word, gates::specs::Gate::outputs_of))]
+#[tactic(auto, unfolding(crate::specs::Read::status_word, counters::specs::Counter::counter_at, gates::specs::Gate::outputs_of))]
 fn status_word(s: &Crate, r: Status) -> u16
     ensures { result ≡ status_word s.now r }
 {
@@ -107,12 +89,9 @@ fn status_word(s: &Crate, r: Status) -> u16
         Status::Code => events.code,
         Status::LoaderState => loader_state(s.common.loader),
         Status::LoaderCounter => events.handled,
-        Status::Count(k) => half(k, counter_at(&s.counters, k / 2).count),
-        Status::Raw(k) => {
-            let counts = &s.rest.rawcounts;
-            low_first(k, counts.get((k / 2) as usize).copied().unwrap_or(0))
-        }
-        Status::Threshold(k) => half(k, threshold(k % 4, counter_at(&s.counters, k / 4))),
+        Status::Count(k) => half(k, at(&s.counters, k / 2).count),
+        Status::Raw(k) => low_first(k, at(&s.rest.rawcounts, k / 2)),
+        Status::Threshold(k) => half(k, threshold(k % 4, at(&s.counters, k / 4))),
     }
 }
 
@@ -130,7 +109,7 @@ fn setting_word(s: &Crate, r: Setting) -> u16
 }
 
 // The word of a register.
-#[tactic(auto, unfolding(crate::specs::Read::word_in, loader::specs::Memory::word_at))]
+#[tactic(auto, unfolding(crate::specs::Read::word_in, counters::specs::Counter::counter_at, gates::specs::Gate::gate_at, loader::specs::Memory::word_at))]
 pub fn word_in(s: &Crate, mem: &[u16; 16384], r: Register) -> u16
     ensures { result ≡ word_in (machine s.now mem.now) r }
 {
@@ -139,13 +118,13 @@ pub fn word_in(s: &Crate, mem: &[u16; 16384], r: Register) -> u16
         Register::Other(setting) => setting_word(s, setting),
         Register::Control => s.common.control,
         Register::Mode => gates::gate_bits(&s.gates, |g| g.mode),
-        Register::Timeout(g) => gate_at(&s.gates, g).timeout,
+        Register::Timeout(g) => at(&s.gates, g).timeout,
         Register::Key => s.common.key,
         Register::Enable => s.common.enable,
         Register::Reload => s.common.reload,
         Register::Prepare => gates::gate_bits(&s.gates, |g| g.prepare),
         Register::Recover => gates::gate_bits(&s.gates, |g| g.recover),
-        Register::Input(n) => counter_at(&s.counters, n).input,
+        Register::Input(n) => at(&s.counters, n).input,
         Register::Group(k) => at(&s.groups, k),
         Register::Word(i) => at(mem, i),
     }
