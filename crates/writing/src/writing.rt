@@ -1,29 +1,17 @@
 // What a write to each register answers and does.
-ghost use Rattle.std.specs.Prelude.{◌≡◌, set};
+ghost use Rattle.std.specs.Prelude.{◌≡◌};
 ghost use Rattle.bools.specs.Pick.{pick};
-ghost use Rattle.counters.specs.Counter.{counter_at, with_input};
-ghost use Rattle.gates.specs.Gate.{gate_at, with_timeout};
 ghost use Rattle.loader.specs.Loader.{pushed};
-ghost use Rattle.device.specs.declared.map.Register.TheVariants.{Input, Other, Timeout};
+ghost use Rattle.device.specs.declared.map.Register.TheVariants.{Other};
 ghost use Rattle.device.specs.declared.map.Setting.TheVariants.{Selection};
 ghost use Rattle.device.specs.Answer.{is_done};
 ghost use Rattle.device.specs.Map.{kept};
 ghost use Rattle.device.specs.State.{machine, with_common, with_counters, with_queue};
 ghost use Rattle.writing.specs.Write.{request_answer, triggers, reload_answer, reload_write, control_write, rest_write, write_answer, reset_by, write_at};
 
-use counters::Counter;
 use device::{Common, Crate, Refusal, Register, Rest, Setting};
 use gates::Gate;
 use loader::Request;
-
-// Element i set, and nothing past the end.
-fn store(xs: &mut [u16], i: usize, word: u16)
-    ensures { xs.new ≡ set xs.old i word }
-{
-    if i < xs.len() {
-        xs[i] = word;
-    }
-}
 
 // A request enters the queue, or is refused: dataset above 31, then 16 waiting.
 #[tactic(auto, using(bools::proofs::Tests::tests), unfolding(crate::specs::Write::request_answer))]
@@ -77,13 +65,13 @@ fn write_setting(rest: &mut Rest, r: Setting, word: u16)
     ensures { rest.new ≡ rest_write r word rest.old }
 {
     match r {
-        Setting::Mask(k) => store(&mut rest.masks, k as usize, word % 4096),
+        Setting::Mask(k) => lists::change(&mut rest.masks, k.into(), |_| word % 4096),
         Setting::WatchdogTimeout => rest.timeout = word,
         Setting::WatchdogReset(k) => {
-            watchdogs::reset_watchdogs(&mut rest.watchdogs, k as usize, word);
+            watchdogs::reset_watchdogs(&mut rest.watchdogs, k.into(), word);
         }
         Setting::Selection(j) => {
-            store(&mut rest.selections, j as usize, keep_selection(j, word));
+            lists::change(&mut rest.selections, j.into(), |_| keep_selection(j, word));
         }
     }
 }
@@ -99,30 +87,8 @@ fn write_control(s: &mut Crate, word: u16)
     }
 }
 
-// A write to a gate's timeout.
-#[tactic(auto, unfolding(device::specs::Map::kept, gates::specs::Gate::gate_at))]
-fn write_timeout(gates: &mut [Gate; 12], g: u16, word: u16)
-    ensures { gates.new ≡ set gates.old g (with_timeout (kept (Timeout g) word) (gate_at gates.old g)) }
-{
-    let i = g as usize;
-    if i < 12 {
-        gates[i].timeout = word;
-    }
-}
-
-// A write to a counter's input register.
-#[tactic(auto, unfolding(device::specs::Map::kept, counters::specs::Counter::counter_at))]
-fn write_input(counters: &mut [Counter; 128], n: u16, word: u16)
-    ensures { counters.new ≡ set counters.old n (with_input (counter_at counters.old n) (kept (Input n) word)) }
-{
-    let i = n as usize;
-    if i < 128 {
-        counters[i].input = word;
-    }
-}
-
 // What a write answers, and does to the crate and the memory; a refused one leaves both.
-#[tactic(auto, unfolding(crate::specs::Write::write_at, crate::specs::Write::write_answer, crate::specs::Write::key_write, crate::specs::Write::enable_write, device::specs::Map::kept))]
+#[tactic(auto, using(lists::proofs::Sweep::get_d_any), unfolding(crate::specs::Write::write_at, crate::specs::Write::write_answer, crate::specs::Write::key_write, crate::specs::Write::enable_write, device::specs::Map::kept, counters::specs::Counter::counter_at, gates::specs::Gate::gate_at))]
 pub fn write_at(
     s: &mut Crate,
     mem: &mut [u16; 16384],
@@ -136,15 +102,19 @@ pub fn write_at(
         Register::Other(setting) => write_setting(&mut s.rest, setting, word),
         Register::Control => write_control(s, word),
         Register::Mode => gates::change_gates(&mut s.gates, word, Gate::with_mode),
-        Register::Timeout(g) => write_timeout(&mut s.gates, g, word),
+        Register::Timeout(g) => {
+            lists::change(&mut s.gates, g.into(), |gate| gate.with_timeout(word));
+        }
         Register::Key => s.common.key = word,
         Register::Enable => s.common.enable = word % 2,
         Register::Reload => return write_reload(&mut s.common, word),
         Register::Prepare => gates::change_gates(&mut s.gates, word, Gate::with_prepare),
         Register::Recover => gates::change_gates(&mut s.gates, word, Gate::with_recover),
-        Register::Input(n) => write_input(&mut s.counters, n, word),
-        Register::Group(k) => store(&mut s.groups, k as usize, word),
-        Register::Word(i) => store(mem, i as usize, word),
+        Register::Input(n) => {
+            lists::change(&mut s.counters, n.into(), |c| c.with_input(word));
+        }
+        Register::Group(k) => lists::change(&mut s.groups, k.into(), |_| word),
+        Register::Word(i) => lists::change(mem, i.into(), |_| word),
     }
     Ok(())
 }
