@@ -1,5 +1,6 @@
 // A stretch of ticks at once.
-ghost use Rattle.std.specs.Prelude.{◌≡◌, min, length};
+ghost use Rattle.std.specs.Prelude.{◌≡◌, ◌<◌, IfSome, min, length};
+ghost use Rattle.std.specs.Option.{unwrap_or};
 ghost use Rattle.leaps.specs.Leap.{Formed, leap_common, leap_of, leap_rest, stretch_of};
 ghost use Rattle.leaps.specs.Leap.{quiet as leap_quiet};
 
@@ -55,17 +56,15 @@ fn quiet(k: u32, s: &Crate, levels: Levels) -> bool
 fn capped(n: u64) -> u32
     ensures { result ≡ min n 4294967295 }
 {
-    n.min(4_294_967_295) as u32
+    u32::try_from(n).unwrap_or(u32::MAX)
 }
 
-// How many of the ticks left can be made at once: as many as the timers allow, if these are quiet, else none.
+// How many of the ticks left can be made at once: as many as the timers allow, if these are quiet and some.
 #[tactic(auto, unfolding(crate::specs::Leap::stretch_of))]
-pub fn stretch(s: &Crate, left: u64, levels: Levels) -> u32
-    ensures { result ≡ stretch_of s.now left levels.inputs levels.gates }
+pub fn stretch(s: &Crate, left: u64, levels: Levels) -> Option<u32>
+    ensures ticks { unwrap_or result 0 ≡ stretch_of s.now left levels.inputs levels.gates }
+    ensures some { IfSome result (λ k. 0 < k) }
 {
     let k = gate_leaps::horizon(&s.gates, capped(left));
-    if quiet(k, s, levels) {
-        return k;
-    }
-    0
+    (0 < k && quiet(k, s, levels)).then_some(k)
 }

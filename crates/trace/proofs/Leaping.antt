@@ -17,10 +17,6 @@ use Rattle.trace.specs.Leaping.{SameEnd}
 use Rattle.trace.specs.Run.{repeated}
 use Rattle.trace.proofs.Steps.{calls_less, calls_none}
 
-positive : (n : ℕ) → (n ≡ 0 → ⊥) → 0 < n
-positive zero h = absurd (h refl)
-positive (suc n) h = omega arith
-
 -- k calls, and then the others
 calls_split : (k n : ℕ) (m : Machine) (x : Call) → k ≤ n → from (from m (repeated k x)) (repeated (n - k) x) ≡ from m (repeated n x)
 calls_split zero n m x h =
@@ -53,11 +49,11 @@ pub same_end : (inputs gates : ℕ) (s : Crate) (n : ℕ) → SameEnd inputs gat
 same_end inputs gates s n = record { same = λ memory whole good. refl }
 
 -- the stretch at once, and the other ticks
-pub leapt_end : (inputs gates : ℕ) (s : Crate) (left k : ℕ) → k ≡ stretch_of s left inputs gates → (k ≡ 0 → ⊥) → Formed s →
+pub leapt_end : (inputs gates : ℕ) (s : Crate) (left k : ℕ) → k ≡ stretch_of s left inputs gates → 0 < k → Formed s →
     SameEnd inputs gates s left (leap_of k s gates) (left - k)
 leapt_end inputs gates s left k e some form = record {
   same = λ memory whole good.
-      let q : quiet k s inputs gates ≡ true = rw e (stretch_quiet s left inputs gates (λ z. some (e ∙ z))) in
+      let q : quiet k s inputs gates ≡ true = rw e (stretch_quiet s left inputs gates (λ z. absurd (omega (arith, e ∙ z)))) in
       let le : k ≤ left = rw e (stretch_le s left inputs gates) in
-      rw (leap_from memory inputs gates whole good k s (positive k some) q form) (calls_split k left (machine s memory) (tick inputs gates) le);
+      rw (leap_from memory inputs gates whole good k s some q form) (calls_split k left (machine s memory) (tick inputs gates) le);
 }

@@ -24,10 +24,9 @@ const WORTH: u64 = 4;
 fn leap_on(state: &mut Crate, left: u64, levels: Levels) -> u64
     ensures { (result ≤ left) × SameEnd levels.inputs levels.gates state.old left state.new result }
 {
-    let k = leaps::stretch(state, left, levels);
-    if k == 0 {
+    let Some(k) = leaps::stretch(state, left, levels) else {
         return left;
-    }
+    };
     leaps::leap(state, k, levels.gates);
     left - u64::from(k)
 }
@@ -38,7 +37,7 @@ fn tick_on(state: &mut Crate, mem: &[u16; 16384], n: u64, levels: Levels)
     ensures { machine state.new mem.now ≡ from (machine state.old mem.now) (repeated n (call_tick levels.inputs levels.gates)) }
 {
     let mut left = n;
-    if bools::both(state.levels == levels.inputs, WORTH <= left) {
+    if state.levels == levels.inputs && WORTH <= left {
         left = leap_on(state, left, levels);
     }
     // no turn is counted: what is left falls by a tick, and then by a stretch
@@ -46,10 +45,9 @@ fn tick_on(state: &mut Crate, mem: &[u16; 16384], n: u64, levels: Levels)
         // neither the memory nor the levels refuse it
         let _answer = registers::tick(state, mem, levels);
         left -= 1;
-        if bools::either(left < WORTH, state.common.loader.is_some()) {
-            continue;
+        if WORTH <= left && state.common.loader.is_none() {
+            left = leap_on(state, left, levels);
         }
-        left = leap_on(state, left, levels);
     }
 }
 
