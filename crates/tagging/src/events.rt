@@ -1,8 +1,9 @@
 // Event tags: what they note, and the commands.
 ghost use Rattle.std.specs.Prelude.{◌≡◌};
-ghost use Rattle.tagging.specs.Tag.{command_of, key_of, code_of, events_on, noted, commanded, command_answer, tag_of, tag_answer};
+ghost use Rattle.tagging.specs.Command.{command_in};
+ghost use Rattle.tagging.specs.Tag.{code_of, key_of, events_on, commanded, command_answer, tag_of, tag_answer};
 
-use device::{Common, Crate, Events, Refusal};
+use device::{Common, Crate, Refusal};
 use gates::Gate;
 use loader::Request;
 use words::Field;
@@ -10,25 +11,47 @@ use words::Field;
 // The command's place in a tag's code.
 const COMMAND: Field = Field { at: 12, width: 4 };
 
-// The code of a tag, its low 16 bits.
-fn code_of(t: u32) -> u16
-    ensures { result ≡ code_of t }
-{
-    (t & 0xFFFF) as u16
+// What a tag asks for: a reload, a pulse on the gates whose bits are set, or that all counts are cleared.
+#[derive(Clone, Copy)]
+enum Command {
+    Reload(Request),
+    Prepare { gates: u16 },
+    Recover { gates: u16 },
+    Clear,
 }
 
-// The key of a tag, its high 16 bits.
-fn key_of(t: u32) -> u16
-    ensures { result ≡ key_of t }
-{
-    (t >> 16) as u16
+// An event tag: the key in its high 16 bits, the code in its low ones.
+#[derive(Clone, Copy)]
+struct EventTag {
+    key: u16,
+    code: u16,
 }
 
-// The command of a tag.
-fn command_of(t: u32) -> u16
-    ensures { result ≡ command_of t }
-{
-    COMMAND.of(code_of(t))
+impl From<u32> for EventTag {
+    ghost from_gives = { λ t tag. (tag.key ≡ key_of t) × (tag.code ≡ code_of t) };
+
+    fn from(t: u32) -> EventTag {
+        EventTag {
+            key: (t >> 16) as u16,
+            code: (t & 0xFFFF) as u16,
+        }
+    }
+}
+
+impl EventTag {
+    // The command of the code, none at 0 and from 5 on.
+    fn command(self) -> Option<Command>
+        ensures { result ≡ command_in self.code }
+    {
+        let code = self.code;
+        match COMMAND.of(code) {
+            1 => Some(Command::Reload(Request::from(code))),
+            2 => Some(Command::Prepare { gates: code }),
+            3 => Some(Command::Recover { gates: code }),
+            4 => Some(Command::Clear),
+            _ => None,
+        }
+    }
 }
 
 // Whether events are on.
@@ -38,45 +61,39 @@ fn events_on(cm: &Common) -> bool
     words::bit(cm.enable, 0)
 }
 
-// 0x0900 and 0x0901 take the tag, and with the right key 0x0902 its code.
-fn note(e: &mut Events, right: bool, t: u32)
-    ensures { e.new ≡ noted right t e.old }
+// A tag's command runs; a reload may be refused.
+#[tactic(auto, unfolding(crate::specs::Tag::commanded, crate::specs::Tag::tag_request, writing::specs::Write::requested))]
+fn run_command(s: &mut Crate, tag: EventTag) -> Result<(), Refusal>
+    ensures { (result ≡ command_answer s.old.common tag.code) × (s.new ≡ commanded s.old tag.code) }
 {
-    e.low = code_of(t);
-    e.high = key_of(t);
-    if right {
-        e.code = code_of(t);
-    }
-}
-
-// A tag's command runs.
-#[tactic(auto, using(crate::proofs::Codes::each_gate_code), unfolding(crate::specs::Tag::commanded, crate::specs::Tag::tag_request, writing::specs::Write::requested))]
-fn command(s: &mut Crate, t: u32) -> Result<(), Refusal>
-    ensures { (result ≡ command_answer s.old.common t) × (s.new ≡ commanded s.old t) }
-{
-    let code = code_of(t);
-    match command_of(t) {
-        1 => return writing::request(&mut s.common, Request::from(code)),
-        2 => gates::change_gates(&mut s.gates, code, Gate::pulse_prepare),
-        3 => gates::change_gates(&mut s.gates, code, Gate::pulse_recover),
-        4 => counters::clear_counters(&mut s.counters),
-        _ => {}
+    match tag.command() {
+        Some(Command::Reload(request)) => return writing::request(&mut s.common, request),
+        Some(Command::Prepare { gates }) => {
+            gates::change_gates(&mut s.gates, gates, Gate::pulse_prepare);
+        }
+        Some(Command::Recover { gates }) => {
+            gates::change_gates(&mut s.gates, gates, Gate::pulse_recover);
+        }
+        Some(Command::Clear) => counters::clear_counters(&mut s.counters),
+        None => {}
     }
     Ok(())
 }
 
-// What a tag answers and does: with events off nothing, and on a wrong key it is noted only.
-#[tactic(auto, unfolding(crate::specs::Tag::tag_of, crate::specs::Tag::tag_answer))]
+// What a tag answers and does: with events off nothing; 0x0900 and 0x0901 take it, and with the right key 0x0902 its code, and its command runs.
+#[tactic(auto, using(crate::proofs::Codes::commanded_code, crate::proofs::Codes::answer_code), unfolding(crate::specs::Tag::tag_of, crate::specs::Tag::tag_answer))]
 pub fn tag_crate(s: &mut Crate, t: u32) -> Result<(), Refusal>
     ensures { (result ≡ tag_answer s.old.common t) × (s.new ≡ tag_of s.old t) }
 {
     if !events_on(&s.common) {
         return Ok(());
     }
-    let right = key_of(t) == s.common.key;
-    note(&mut s.rest.events, right, t);
-    if !right {
+    let tag = EventTag::from(t);
+    s.rest.events.low = tag.code;
+    s.rest.events.high = tag.key;
+    if tag.key != s.common.key {
         return Ok(());
     }
-    command(s, t)
+    s.rest.events.code = tag.code;
+    run_command(s, tag)
 }
