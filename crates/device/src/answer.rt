@@ -31,7 +31,8 @@ impl From<Refusal> for u16 {
     }
 }
 
-// The number of an answer, 0 for an accepted call.
+// The number of an answer, 0 for an accepted call, for programs that hand answers out by the table of causes. Nothing here calls it; what calls
+// return in such numbers is stated in `demands` by its contract.
 pub fn number<T: Copy>(answer: Result<T, Refusal>) -> u16
     ensures { result ≡ number_of answer }
 {

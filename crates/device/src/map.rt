@@ -52,6 +52,9 @@ pub enum Setting {
     Selection(u16),
 }
 
+// A page's function takes a whole address, and promises what stands there from the page's first one on. By the place within the page a read of
+// the register image takes two instructions more, by one match for all pages nine, of nineteen: a run with its image then 3% and 15% more.
+
 // Addresses up to 0x06FF.
 #[tactic(auto, using(bools::proofs::Tests::tests), unfolding(crate::specs::Map::backplane_map))]
 fn backplane_map(a: u16) -> Option<Register>
@@ -67,8 +70,7 @@ fn backplane_map(a: u16) -> Option<Register>
 // 0x0700 to 0x07FF.
 #[tactic(auto, using(bools::proofs::Tests::tests), unfolding(crate::specs::Map::status_map))]
 fn status_map(a: u16) -> Option<Register>
-    requires { 0x0700 ≤ a }
-    ensures { result ≡ status_map a }
+    ensures { 0x0700 ≤ a → result ≡ status_map a }
 {
     let status = match a {
         0x0700..=0x0707 => Status::Negative(a - 0x0700),
@@ -87,8 +89,7 @@ fn status_map(a: u16) -> Option<Register>
 // 0x0800 to 0x08FF.
 #[tactic(auto, using(bools::proofs::Tests::tests), unfolding(crate::specs::Map::control_map))]
 fn control_map(a: u16) -> Option<Register>
-    requires { 0x0800 ≤ a }
-    ensures { result ≡ control_map a }
+    ensures { 0x0800 ≤ a → result ≡ control_map a }
 {
     match a {
         0x0800 => Some(Register::Other(Setting::WatchdogTimeout)),
@@ -103,8 +104,7 @@ fn control_map(a: u16) -> Option<Register>
 // 0x0900 to 0x0FFF.
 #[tactic(auto, using(bools::proofs::Tests::tests), unfolding(crate::specs::Map::event_map))]
 fn event_map(a: u16) -> Option<Register>
-    requires { 0x0900 ≤ a }
-    ensures { result ≡ event_map a }
+    ensures { 0x0900 ≤ a → result ≡ event_map a }
 {
     match a {
         0x0900 => Some(Register::Readout(Status::TagLow)),
@@ -135,8 +135,7 @@ fn output_block(k: u16) -> Option<Register>
 // 0x1000 on.
 #[tactic(auto, using(bools::proofs::Tests::tests), unfolding(crate::specs::Map::counter_map))]
 fn counter_map(a: u16) -> Option<Register>
-    requires { 0x1000 ≤ a }
-    ensures { result ≡ counter_map a }
+    ensures { 0x1000 ≤ a → result ≡ counter_map a }
 {
     match a {
         0x1000..=0x107F => Some(Register::Input(a - 0x1000)),

@@ -1,4 +1,7 @@
-// The crate's state: what each counter and gate has, what all counters share, and what no counter sees.
+// The crate's state: what each counter and gate has, what all counters share, and what no counter sees. The defaults are those of power-up.
+ghost use Rattle.std.specs.Prelude.{◌≡◌};
+ghost use Rattle.device.specs.State.{common0, rest0, power_up};
+
 use counters::Counter;
 use gates::Gate;
 use loader::{Queue, Reload};
@@ -7,13 +10,30 @@ use watchdogs::Watchdog;
 #[derive(Clone, Copy)]
 pub struct Crate {
     pub counters: [Counter; 128],
-    // registers 0x1600 to 0x161F, four bits a counter
+    // registers 0x1600 to 0x161F, four bits a counter; as words, since in the counters each read would put one together from four and each
+    // write would take one apart
     pub groups: [u16; 32],
     pub gates: [Gate; 12],
     // the input levels of the last tick
     pub levels: u64,
     pub common: Common,
     pub rest: Rest,
+}
+
+impl Default for Crate {
+    ghost is_default = { λ s. s ≡ power_up };
+
+    #[tactic(auto, unfolding(crate::specs::State::power_up, lists::specs::Table::tabulate, lists::specs::Table::table_from))]
+    fn default() -> Crate {
+        Crate {
+            counters: [Counter::default(); 128],
+            groups: [0; 32],
+            gates: [Gate::default(); 12],
+            levels: 0,
+            common: Common::default(),
+            rest: Rest::default(),
+        }
+    }
 }
 
 // What all counters share, so that every counter's sheet has it whole.
@@ -30,6 +50,23 @@ pub struct Common {
     pub phases: [u32; 9],
 }
 
+impl Default for Common {
+    ghost is_default = { λ c. c ≡ common0 };
+
+    #[tactic(auto, unfolding(lists::specs::Table::tabulate, lists::specs::Table::table_from))]
+    fn default() -> Common {
+        Common {
+            control: 0,
+            key: 0,
+            enable: 0,
+            reload: 0,
+            queue: Queue::default(),
+            loader: None,
+            phases: [0; 9],
+        }
+    }
+}
+
 // What no counter sees.
 #[derive(Clone, Copy)]
 pub struct Rest {
@@ -37,12 +74,30 @@ pub struct Rest {
     pub masks: [u16; 6],
     pub timeout: u16,
     pub selections: [u16; 132],
+    // beside the raw counts: each is stepped, reset and read by itself, and nothing takes both of one input
     pub watchdogs: [Watchdog; 54],
     // registers 0x1300 to 0x136B: how often each input has risen since power-up, modulo 2^32
     pub rawcounts: [u32; 54],
     // the gate levels of the last tick
     pub gatelevels: u16,
     pub events: Events,
+}
+
+impl Default for Rest {
+    ghost is_default = { λ r. r ≡ rest0 };
+
+    #[tactic(auto, unfolding(lists::specs::Table::tabulate, lists::specs::Table::table_from))]
+    fn default() -> Rest {
+        Rest {
+            masks: [0; 6],
+            timeout: 65535,
+            selections: [0; 132],
+            watchdogs: [Watchdog::default(); 54],
+            rawcounts: [0; 54],
+            gatelevels: 0,
+            events: Events::default(),
+        }
+    }
 }
 
 // The last tag, the last accepted tag, and the last counter handled by the loader: 0x0900 to 0x0902 and 0x0904.

@@ -5,4 +5,4 @@ mod loader;
 mod memory;
 
 pub use loader::{Queue, Reload, Request, group_at, load_into, step_loader};
-pub use memory::{clear_memory, download, load};
+pub use memory::{CounterNumber, Dataset, clear_memory, download, load};

@@ -3,6 +3,7 @@ ghost use Rattle.std.specs.Prelude.{◌≡◌, ◌+◌, ◌<◌, slice_index_or}
 ghost use Rattle.words.specs.Word.{field_of};
 ghost use Rattle.loader.specs.Loader.{pushed, taken, left_of, queue0, request0, request_for, shifted, loader_step, queue_step, group_at, load_into};
 
+use crate::memory::{self, CounterNumber};
 use counters::Counter;
 use std::array;
 use words::Field;
@@ -116,10 +117,10 @@ pub fn step_loader(loader: &mut Option<Reload>, queue: &mut Queue)
 // The group of counter n: four bits of register n / 4.
 #[tactic(auto, unfolding(crate::specs::Loader::group_at))]
 pub fn group_at(groups: &[u16; 32], n: usize) -> u16
-    requires { n < 128 }
     ensures { result ≡ group_at groups.now n }
 {
-    words::nibble(groups[n / 4], (n % 4) as u32)
+    let word = groups.get(n / 4).copied().unwrap_or(0);
+    words::nibble(word, (n % 4) as u32)
 }
 
 // The loader's tick on the counters: the one that a busy loader handles takes its four words if it is of the request's group.
@@ -135,8 +136,9 @@ pub fn load_into(
     let Some(Reload { request, next }) = loader else {
         return;
     };
-    let n = next as usize;
-    if n < 128 && request.group == group_at(groups, n) {
-        counters[n] = crate::memory::load(mem, request.dataset as usize, n, counters[n]);
+    let number = usize::from(next);
+    if number < 128 && request.group == group_at(groups, number) {
+        let dataset = usize::from(request.dataset);
+        counters[number] = memory::load(mem, dataset, CounterNumber { number }, counters[number]);
     }
 }

@@ -4,41 +4,61 @@ ghost use Rattle.lists.specs.Table.{tabulate};
 ghost use Rattle.loader.specs.Memory.{memory_words, place_of, loaded, replaced};
 
 use counters::Counter;
+use std::ops::Range;
+
+// A dataset, by its number among the 32.
+#[derive(Clone, Copy)]
+pub struct Dataset {
+    pub number: usize,
+    ghost one_of_32: { number < 32 },
+}
+
+impl Dataset {
+    // Where its part of the memory stands.
+    fn part(self) -> Range<usize>
+        ensures { (result.start ≡ 512 * self.number) × (result.end ≡ 512 * self.number + 512) }
+    {
+        let base = 512 * self.number;
+        base..base + 512
+    }
+}
+
+// A counter, by its number among the 128.
+#[derive(Clone, Copy)]
+pub struct CounterNumber {
+    pub number: usize,
+    ghost one_of_128: { number < 128 },
+}
 
 // A counter with the thresholds of counter n in a dataset's part.
 #[tactic(auto, unfolding(crate::specs::Memory::loaded, crate::specs::Memory::word_at))]
-fn load_from(part: &[u16], n: usize, c: Counter) -> Counter
-    requires { (length part.now ≡ 512) × (n < 128) }
-    ensures { result ≡ loaded part.now (4 * n) c }
+fn load_from(part: &[u16], n: CounterNumber, c: Counter) -> Counter
+    requires { length part.now ≡ 512 }
+    ensures { result ≡ loaded part.now (4 * n.number) c }
 {
-    let at = 4 * n;
+    let at = 4 * n.number;
     let positive = numbers::join(part[at], part[at + 1]);
     let negative = numbers::join(part[at + 2], part[at + 3]);
     c.with_thresholds(positive, negative)
 }
 
 // A counter with the thresholds of counter n in a dataset; there are 32, and any other reads 0.
-pub fn load(mem: &[u16; 16384], dataset: usize, n: usize, c: Counter) -> Counter
-    requires { n < 128 }
-    ensures { result ≡ loaded mem.now (place_of dataset n) c }
+pub fn load(mem: &[u16; 16384], dataset: usize, n: CounterNumber, c: Counter) -> Counter
+    ensures { result ≡ loaded mem.now (place_of dataset n.number) c }
 {
     if dataset < 32 {
-        let base = 512 * dataset;
-        let end = base + 512;
-        return load_from(&mem[base..end], n, c);
+        let dataset = Dataset { number: dataset };
+        return load_from(&mem[dataset.part()], n, c);
     }
     c.with_thresholds(0, 0)
 }
 
 // 512 words over one dataset; every other word stays.
 #[tactic(auto, unfolding(crate::specs::Memory::replaced))]
-pub fn download(mem: &mut [u16; 16384], dataset: usize, words: &[u16; 512])
-    requires { dataset < 32 }
-    ensures { mem.new ≡ replaced mem.old (512 * dataset) words.now }
+pub fn download(mem: &mut [u16; 16384], dataset: Dataset, words: &[u16; 512])
+    ensures { mem.new ≡ replaced mem.old (512 * dataset.number) words.now }
 {
-    let base = 512 * dataset;
-    let end = base + 512;
-    mem[base..end].copy_from_slice(words);
+    mem[dataset.part()].copy_from_slice(words);
 }
 
 // Every word 0.

@@ -5,69 +5,19 @@ ghost use Rattle.registers.specs.Calls.{answer, step, powered, powered_memory};
 ghost use Rattle.registers.specs.Calls.{tick as call_tick, write as call_write, tag as call_tag, download as call_download};
 ghost use Rattle.interlocks.specs.Scan.{scan_of};
 ghost use Rattle.reading.specs.Read.{read_of};
-ghost use Rattle.device.specs.State.{machine, common0, rest0, power_up};
+ghost use Rattle.device.specs.State.{machine};
 
-use counters::Counter;
-use device::{Common, Crate, Events, Refusal, Rest};
-use gates::Gate;
+use device::{Crate, Refusal};
 use interlocks::OutputScan;
 use lines::Levels;
-use loader::Queue;
-use watchdogs::Watchdog;
-
-// What all counters share, at power-up.
-#[tactic(auto, unfolding(lists::specs::Table::tabulate, lists::specs::Table::table_from))]
-fn new_common() -> Common
-    ensures { result ≡ common0 }
-{
-    Common {
-        control: 0,
-        key: 0,
-        enable: 0,
-        reload: 0,
-        queue: Queue::default(),
-        loader: None,
-        phases: [0; 9],
-    }
-}
-
-// What no counter sees, at power-up.
-#[tactic(auto, unfolding(lists::specs::Table::tabulate, lists::specs::Table::table_from))]
-fn new_rest() -> Rest
-    ensures { result ≡ rest0 }
-{
-    Rest {
-        masks: [0; 6],
-        timeout: 65535,
-        selections: [0; 132],
-        watchdogs: [Watchdog::default(); 54],
-        rawcounts: [0; 54],
-        gatelevels: 0,
-        events: Events::default(),
-    }
-}
-
-// The crate at power-up.
-#[tactic(auto, unfolding(device::specs::State::power_up, lists::specs::Table::tabulate, lists::specs::Table::table_from))]
-fn new_crate() -> Crate
-    ensures { result ≡ power_up }
-{
-    Crate {
-        counters: [Counter::default(); 128],
-        groups: [0; 32],
-        gates: [Gate::default(); 12],
-        levels: 0,
-        common: new_common(),
-        rest: new_rest(),
-    }
-}
+use loader::Dataset;
 
 // Power-up: a new crate, and a memory of zeros.
 #[tactic(auto, unfolding(crate::specs::Calls::powered, crate::specs::Calls::powered_memory, device::specs::State::memory0))]
 pub fn power_up(mem: &mut [u16]) -> (Crate, Result<(), Refusal>)
     ensures { (result ≡ powered mem.old) × (mem.new ≡ powered_memory mem.old) }
 {
-    let state = new_crate();
+    let state = Crate::default();
     let Some(mem) = mem.as_mut_array() else {
         return (state, Err(Refusal::Memory));
     };
@@ -141,6 +91,7 @@ pub fn download(state: &Crate, mem: &mut [u16], dataset: u16, words: &[u16]) -> 
     if 31 < dataset {
         return Err(Refusal::Dataset);
     }
-    loader::download(mem, dataset as usize, words);
+    let number = usize::from(dataset);
+    loader::download(mem, Dataset { number }, words);
     Ok(())
 }

@@ -31,9 +31,9 @@ pub returns-then-dataset-lt32 : goal.returns-then-dataset-lt32
 returns-then-dataset-lt32 c =
     let a = c.args in
     let base = 512 * a.dataset in
-    c.load_from.ensures ∙ loaded_part a.mem.now base (base + 512 - base) (4 * a.n) a.c (omega arith)
+    c.load_from.ensures ∙ rw (c.part.ensures.0, c.part.ensures.1) (loaded_part a.mem.now base (base + 512 - base) (4 * a.n.number) a.c (omega arith))
 
 pub returns : goal.returns
 returns c =
     let a = c.args in
-    c.with_thresholds.ensures ∙ sym (loaded_past a.mem.now (512 * a.dataset + 4 * a.n) a.c (omega arith))
+    c.with_thresholds.ensures ∙ sym (loaded_past a.mem.now (512 * a.dataset + 4 * a.n.number) a.c (omega arith))
