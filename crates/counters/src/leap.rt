@@ -31,7 +31,7 @@ fn counter_after(mut c: Counter, stretch: &Stretch) -> Counter
     if words::bit(stretch.control, 0) {
         return c.clear();
     }
-    let selection = words::Selection::of(c.input);
+    let selection = words::Selection::from(c.input);
     if words::bit(stretch.is, usize::from(selection.gate)) {
         let ups = stretch.rises[usize::from(selection.up)];
         let downs = stretch.rises[usize::from(selection.down)];

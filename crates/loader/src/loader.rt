@@ -120,7 +120,7 @@ pub fn group_at(groups: &[u16; 32], n: usize) -> u16
     ensures { result ≡ group_at groups.now n }
 {
     let word = groups.get(n / 4).copied().unwrap_or(0);
-    words::nibble(word, (n % 4) as u32)
+    words::nibble(word, n)
 }
 
 // The loader's tick on the counters: the one that a busy loader handles takes its four words if it is of the request's group.

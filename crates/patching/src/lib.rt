@@ -2,7 +2,7 @@
 #![tactic(auto)]
 
 ghost use Rattle.std.specs.Prelude.{◌≡◌};
-ghost use Rattle.patching.specs.Patching.{group_answer, group_place, input_answer};
+ghost use Rattle.patching.specs.Patching.{group_answer, input_answer};
 
 use words::Selection;
 
@@ -28,13 +28,6 @@ pub fn input_word(up: u16, down: u16, gate: u16) -> Option<u16>
     }
 }
 
-// The place of a counter's group among the four of its register.
-fn group_place(counter: u16) -> u32
-    ensures { result ≡ group_place counter }
-{
-    u32::from(counter % 4)
-}
-
 // The word of a counter's group register with this group for the counter; the other three counters' groups are those of `word`.
 // None where there is no such counter or group.
 #[tactic(auto, unfolding(crate::specs::Patching::group_answer))]
@@ -42,7 +35,7 @@ pub fn group_word(word: u16, counter: u16, group: u16) -> Option<u16>
     ensures { result ≡ group_answer word counter group }
 {
     if counter < COUNTERS && group < GROUPS {
-        Some(words::put_nibble(word, group_place(counter), group))
+        Some(words::put_nibble(word, usize::from(counter), group))
     } else {
         None
     }

@@ -40,11 +40,7 @@ fn module_word(k: u16) -> u16
 fn low_first(j: u16, n: u32) -> u16
     ensures { result ≡ low_first j n }
 {
-    if j % 2 == 0 {
-        (n & 0xFFFF) as u16
-    } else {
-        (n >> 16) as u16
-    }
+    words::halves(n)[usize::from(j % 2)]
 }
 
 // The low or the high word of a number.

@@ -31,10 +31,8 @@ impl From<u32> for EventTag {
     ghost from_gives = { λ t tag. (tag.key ≡ key_of t) × (tag.code ≡ code_of t) };
 
     fn from(t: u32) -> EventTag {
-        EventTag {
-            key: (t >> 16) as u16,
-            code: (t & 0xFFFF) as u16,
-        }
+        let [code, key] = words::halves(t);
+        EventTag { key, code }
     }
 }
 

@@ -3,7 +3,7 @@ ghost use Rattle.std.specs.Prelude.{◌≡◌, ℕ, Bool, ◌*◌, ◌^◌, ◌�
 ghost use Rattle.words.specs.Word.{bit_of, fields as word_fields, pack as word_pack};
 
 // The word of n fields of `width` bits, the first lowest: field i is part(i).
-pub fn from_fields<F: Fn(usize) -> u16>(n: usize, width: u32, part: F) -> u16
+pub fn from_fields<F: Fn(usize) -> u16>(n: usize, width: usize, part: F) -> u16
     requires room { (0 < width) × (n * width ≤ 16) }
     requires callable { (i : ℕ) → i < n → F.pre part i }
     requires small { (i v : ℕ) → i < n → F.post part i v → v < 2 ^ width }
@@ -11,7 +11,7 @@ pub fn from_fields<F: Fn(usize) -> u16>(n: usize, width: u32, part: F) -> u16
 {
     let mut w: u16 = 0;
     for i in 0..n {
-        w |= part(i) << (width * (i as u32));
+        w |= part(i) << (width * i);
     }
     w
 }

@@ -17,20 +17,20 @@ pub struct Selection {
     pub gate: u16,
 }
 
-impl Selection {
-    // The selections in an input register: UP in bits 5-0, DOWN in 11-6, GATE in 15-12.
-    pub fn of(w: u16) -> Selection
-        ensures up { result.up ≡ field_of w 0 6 }
-        ensures down { result.down ≡ field_of w 6 6 }
-        ensures gate { result.gate ≡ field_of w 12 4 }
-    {
+// The selections in an input register: UP in bits 5-0, DOWN in 11-6, GATE in 15-12.
+impl From<u16> for Selection {
+    ghost from_gives = { λ w s. (s.up ≡ field_of w 0 6) × (s.down ≡ field_of w 6 6) × (s.gate ≡ field_of w 12 4) };
+
+    fn from(w: u16) -> Selection {
         Selection {
             up: UP.of(w),
             down: DOWN.of(w),
             gate: GATE.of(w),
         }
     }
+}
 
+impl Selection {
     // An input register with these selections, the low bits of each.
     pub fn put(self, w: u16) -> u16
         ensures { result ≡ put_of (put_of (put_of w 12 4 self.gate) 6 6 self.down) 0 6 self.up }

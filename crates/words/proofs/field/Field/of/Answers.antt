@@ -6,7 +6,7 @@ use Rattle.words.proofs.field.Field.of.Goals as goal
 
 pub returns : goal.returns
 returns c =
-    let a = c.args in rw (c.ones.ensures, and_mask (a.w / 2 ^ a.self.at) a.self.width)
+    let a = c.args in rw (c.from.ensures, c.ones.ensures, and_mask (a.w / 2 ^ a.self.at) a.self.width)
 
 pub overflow_cast-result-2 : goal.overflow_cast-result-2
 overflow_cast-result-2 c =

@@ -7,10 +7,10 @@ use Rattle.words.proofs.field.Field.put.Goals as goal
 pub returns : goal.returns
 returns c =
     let a = c.args in
-    rw (c.ones-2.ensures, c.ones.ensures, and_mask a.v a.self.width, and_mask a.w a.self.at)
+    rw (c.from-x.ensures, c.from.ensures, c.ones-2.ensures, c.ones.ensures, and_mask a.v a.self.width, and_mask a.w a.self.at)
     (put_is 32 a.self.at a.self.width a.w a.v (omega arith) (omega arith))
 
-pub overflow_cast-result : goal.overflow_cast-result
-overflow_cast-result c =
+pub overflow_cast-result-2 : goal.overflow_cast-result-2
+overflow_cast-result-2 c =
     let a = c.args in
     rw (returns c) (record { fits = put_lt 16 a.self.at a.self.width a.w a.v (omega arith) (omega arith) })
