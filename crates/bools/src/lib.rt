@@ -1,6 +1,2 @@
-// Choices and tests: what the crates above decide with.
+// Choices and tests: what the contracts and proofs of the crates above decide with; definitions and laws, no function.
 #![tactic(auto)]
-
-mod test;
-
-pub use test::{both, either, without};
