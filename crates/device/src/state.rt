@@ -1,6 +1,6 @@
 // The crate's state: what each counter and gate has, what all counters share, and what no counter sees. The defaults are those of power-up.
 ghost use Rattle.std.specs.Prelude.{◌≡◌};
-ghost use Rattle.device.specs.State.{common0, rest0, power_up};
+ghost use Rattle.device.specs.State.{rest0, power_up};
 
 use counters::Counter;
 use gates::Gate;
@@ -20,6 +20,7 @@ pub struct Crate {
     pub rest: Rest,
 }
 
+// By hand: with the derived one the proof that its 128 counters and twelve gates are those of power-up does not close.
 impl Default for Crate {
     ghost is_default = { λ s. s ≡ power_up };
 
@@ -37,7 +38,7 @@ impl Default for Crate {
 }
 
 // What all counters share, so that every counter's sheet has it whole.
-#[derive(Clone, Copy)]
+#[derive(Clone, Copy, Default)]
 pub struct Common {
     // registers 0x0801, 0x0A00, 0x0A01 and 0x0A02
     pub control: u16,
@@ -48,23 +49,6 @@ pub struct Common {
     // the reload that the loader works on, none while it is idle
     pub loader: Option<Reload>,
     pub phases: [u32; 9],
-}
-
-impl Default for Common {
-    ghost is_default = { λ c. c ≡ common0 };
-
-    #[tactic(auto, unfolding(lists::specs::Table::tabulate, lists::specs::Table::table_from))]
-    fn default() -> Common {
-        Common {
-            control: 0,
-            key: 0,
-            enable: 0,
-            reload: 0,
-            queue: Queue::default(),
-            loader: None,
-            phases: [0; 9],
-        }
-    }
 }
 
 // What no counter sees.
