@@ -1,19 +1,25 @@
 -- A tick of a gate that stays in its state and then k is k + 1, and a tick and then none is the tick: of one gate, and of all.
 use Prim.Native.Nat.{ℕ, zero, suc, ◌-◌, ◌≤◌, ◌<◌}
+use native.Mathlib.Nat.{zero-add}
 use native.Mathlib.Omega.{arith}
 use mathlib.Core.Bool.{Bool, true, false, not, ◌&&◌, ◌||◌}
-use mathlib.Core.List.{List}
+use mathlib.Core.List.{List, [], ◌∷◌}
 use mathlib.Core.Path.{◌≡◌, refl, sym, ap, ◌∙◌}
 use borrow.Author.Tests.{lt-leb, lt-ltb, ltb-true, not-false, not-true}
 use lib.Dec.{ltb}
-use lib.ListN.{get_or}
+use lib.ListN.{get_or, length, take}
+use lib.Seq.{take-suc, take_all}
+use Rattle.std.specs.Bool.{MatchBool}
+use Rattle.std.specs.List.{AllWithin, HoldsAt, enumerate_from, fold}
+use Rattle.std.proofs.lemmas.List.FromFn.{get_or-enumerate_from, length-enumerate_from}
+use Rattle.std.proofs.lemmas.List.Sums.{fold-append}
 use Rattle.bools.specs.Pick.{pick}
 use Rattle.words.specs.Word.{bit}
 use Rattle.words.proofs.Gather.{pack_ext}
 use Rattle.bools.proofs.Tests.{pick_elim}
 use Rattle.std.proofs.lemmas.Bool.{and_parts, or_parts}
 use Rattle.lists.specs.Table.{any}
-use Rattle.lists.proofs.Tables.{any_each, each_then, get_or_each}
+use Rattle.lists.proofs.Tables.{all_answer, any_each, each_then, get_or_each}
 use Rattle.gates.specs.declared.gate.Gate.{Gate}
 use Rattle.gates.specs.declared.gate.GateState.{GateState}
 use Rattle.gates.specs.declared.gate.GateState.TheVariants.{Idle, Prepare, Open, Waiting, Error, Recover, Direct}
@@ -191,3 +197,29 @@ pub horizon_le : (n : ℕ) (gates : List Gate) (k : ℕ) → horizon n gates k �
 unfolding horizon
 horizon_le zero gates k = omega arith
 horizon_le (suc n) gates k = omega (arith, sooner_le (gate_at gates n) (horizon n gates k), horizon_le n gates k)
+
+-- the timers one after the other
+timers : (n : ℕ) (gates : List Gate) (k : ℕ) → n ≤ length gates → fold (λ most g. sooner g most) k (take n gates) ≡ horizon n gates k
+unfolding horizon gate_at
+timers zero gates k h = refl
+timers (suc n) gates k h =
+    rw (take-suc gates n gate0 (omega arith), fold-append (λ most g. sooner g most) k (take n gates) (get_or gates n gate0 ∷ []))
+    (ap (sooner (get_or gates n gate0)) (timers n gates k (omega arith)))
+
+pub fold_horizon : (gates : List Gate) (k : ℕ) → length gates ≡ 12 → fold (λ most g. sooner g most) k gates ≡ horizon 12 gates k
+fold_horizon gates k size = ap (fold (λ most g. sooner g most) k) (sym (take_all 12 gates (omega arith))) ∙ timers 12 gates k (omega arith)
+
+-- whether a gate stays, with its number
+abbrev pub stays_at : ℕ → ℕ → ℕ × Gate → Bool
+stays_at k levels p = steady k (bit levels p.0) p.1
+
+-- what std's `all` answers of the gates with their numbers
+pub steady_all : (k levels : ℕ) (gates : List Gate) (r : Bool) → length gates ≡ 12 →
+    MatchBool r (AllWithin (λ p. stays_at k levels p ≡ true) (enumerate_from 0 gates) 0 (length (enumerate_from 0 gates)))
+    ((i : ℕ) × (i < length (enumerate_from 0 gates)) × HoldsAt (λ p. stays_at k levels p ≡ false) (enumerate_from 0 gates) i) →
+    r ≡ steady_gates k levels gates
+unfolding steady_gates gate_at
+steady_all k levels gates r size m =
+    all_answer (0, gate0) (enumerate_from 0 gates) 12 (length-enumerate_from 0 gates ∙ size) (stays_at k levels) _ r
+    (λ i h. ap (λ (p : ℕ × Gate). not (stays_at k levels p)) (sym (rw zero-add at (get_or-enumerate_from 0 gates i (0, gate0) (omega arith)))))
+    m

@@ -3,14 +3,21 @@ ghost use Rattle.std.specs.Prelude.{◌≡◌};
 ghost use Rattle.gate_leaps.specs.Leap.{gate_after, leap_gates, steady_gates};
 ghost use Rattle.gate_leaps.specs.Leap.{horizon as leap_horizon, settled as leap_settled, sooner as leap_sooner, stays as leap_stays, steady as leap_steady};
 
-use gates::{Gate, GateState, in_prepare, output_of};
+use gates::{Gate, GateState, output_of};
+
+// A stretch as a gate sees it: so many ticks at the level of its input.
+#[derive(Clone, Copy)]
+struct Stay {
+    ticks: u32,
+    high: bool,
+}
 
 // The gate with its timer k ticks on.
 #[tactic(auto, unfolding(crate::specs::Leap::gate_after))]
 fn gate_after(mut g: Gate, k: u32) -> Gate
     ensures { result ≡ gate_after k g }
 {
-    if in_prepare(g.state) {
+    if g.state == GateState::Prepare {
         g.timer = g.timer.saturating_sub(k);
     }
     g
@@ -24,54 +31,57 @@ pub fn leap_gates(gates: &mut [Gate; 12], k: u32)
     lists::step_each(gates, |_, g| gate_after(g, k));
 }
 
-// Whether no pulse waits, and prepare signal and output are those of the last tick.
-fn settled(high: bool, g: Gate) -> bool
-    ensures { result ≡ leap_settled high g }
-{
-    let signal = g.lastprepare == g.prepare;
-    let shown = g.output == output_of(g.state, high);
-    signal && shown && !g.preparepulse && !g.recoverpulse
-}
-
-// Whether the state stays for k ticks at this level.
-fn stays(k: u32, high: bool, g: Gate) -> bool
-    ensures { result ≡ leap_stays g.state k high g }
-{
-    match g.state {
-        GateState::Idle => !g.mode && !high,
-        GateState::Prepare => k < g.timer && !high,
-        GateState::Open => high,
-        GateState::Waiting => g.prepare && !high,
-        GateState::Error => !g.recover,
-        GateState::Recover => g.recover,
-        GateState::Direct => g.mode,
+impl Stay {
+    // Whether no pulse waits, and prepare signal and output are those of the last tick.
+    fn finds_settled(self, g: Gate) -> bool
+        ensures { result ≡ leap_settled self.high g }
+    {
+        let signal = g.lastprepare == g.prepare;
+        let shown = g.output == output_of(g.state, self.high);
+        signal && shown && !g.preparepulse && !g.recoverpulse
     }
-}
 
-#[tactic(auto, unfolding(crate::specs::Leap::steady))]
-fn steady(k: u32, high: bool, g: Gate) -> bool
-    ensures { result ≡ leap_steady k high g }
-{
-    settled(high, g) && stays(k, high, g)
+    // Whether the state stays.
+    fn keeps_state(self, g: Gate) -> bool
+        ensures { result ≡ leap_stays g.state self.ticks self.high g }
+    {
+        match g.state {
+            GateState::Idle => !g.mode && !self.high,
+            GateState::Prepare => self.ticks < g.timer && !self.high,
+            GateState::Open => self.high,
+            GateState::Waiting => g.prepare && !self.high,
+            GateState::Error => !g.recover,
+            GateState::Recover => g.recover,
+            GateState::Direct => g.mode,
+        }
+    }
+
+    #[tactic(auto, unfolding(crate::specs::Leap::steady))]
+    fn is_steady(self, g: Gate) -> bool
+        ensures { result ≡ leap_steady self.ticks self.high g }
+    {
+        self.finds_settled(g) && self.keeps_state(g)
+    }
 }
 
 // Whether all gates stay for k ticks at these levels.
 pub fn steady_gates(gates: &[Gate; 12], k: u32, levels: u16) -> bool
     ensures { result ≡ steady_gates k levels gates.now }
 {
-    for (i, g) in gates.iter().enumerate() {
-        if !steady(k, words::bit(levels, i), *g) {
-            return false;
-        }
-    }
-    true
+    gates.iter().enumerate().all(|(i, g)| {
+        let stay = Stay {
+            ticks: k,
+            high: words::bit(levels, i),
+        };
+        stay.is_steady(*g)
+    })
 }
 
 // At most k ticks, and in PREPARE fewer than the timer has.
 fn sooner(g: Gate, k: u32) -> u32
     ensures { result ≡ leap_sooner g k }
 {
-    if in_prepare(g.state) {
+    if g.state == GateState::Prepare {
         return g.timer.saturating_sub(1).min(k);
     }
     k
@@ -81,9 +91,5 @@ fn sooner(g: Gate, k: u32) -> u32
 pub fn horizon(gates: &[Gate; 12], k: u32) -> u32
     ensures { result ≡ leap_horizon 12 gates.now k }
 {
-    let mut most = k;
-    for g in gates {
-        most = sooner(*g, most);
-    }
-    most
+    gates.iter().fold(k, |most, g| sooner(*g, most))
 }

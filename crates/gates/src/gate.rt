@@ -127,11 +127,10 @@ fn from_direct(mode: bool) -> GateState
 fn next_state(g: Gate, high: bool) -> GateState
     ensures { result ≡ next_state g.state g high }
 {
-    let state = g.state;
     let prepare = g.prepare_signal();
     let recover = g.recover_signal();
     let rises = prepare && !g.lastprepare;
-    match state {
+    match g.state {
         GateState::Idle => from_idle(g.mode, high, rises),
         GateState::Prepare => from_prepare(high, g.timer <= 1),
         GateState::Open => from_open(high),
@@ -139,24 +138,6 @@ fn next_state(g: Gate, high: bool) -> GateState
         GateState::Error => from_error(recover),
         GateState::Recover => from_recover(recover),
         GateState::Direct => from_direct(g.mode),
-    }
-}
-
-// Whether a state is PREPARE.
-pub fn in_prepare(state: GateState) -> bool
-    ensures { result ≡ in_prepare state }
-{
-    state == GateState::Prepare
-}
-
-// The timer after a tick: set on the way into PREPARE, one less while there.
-fn timer_of(was: bool, is: bool, timer: u32, timeout: u16) -> u32
-    ensures { result ≡ timer_of was is timer timeout }
-{
-    match (is, was) {
-        (false, _) => timer,
-        (true, true) => timer.saturating_sub(1),
-        (true, false) => 16384 * (timeout as u32),
     }
 }
 
@@ -186,27 +167,31 @@ impl Gate {
         self.recover || self.recoverpulse
     }
 
+    // The timer after a tick that leads to a state: set on the way into PREPARE, one less while there.
+    fn timer_in(self, state: GateState) -> u32
+        ensures { result ≡ timer_of (in_prepare self.state) (in_prepare state) self.timer self.timeout }
+    {
+        match (self.state, state) {
+            (GateState::Prepare, GateState::Prepare) => self.timer.saturating_sub(1),
+            (_, GateState::Prepare) => 16384 * u32::from(self.timeout),
+            _ => self.timer,
+        }
+    }
+
     // One tick at the level of the gate's input.
     #[tactic(auto, unfolding(crate::specs::Gate::gate_step))]
     pub fn step(self, high: bool) -> Gate
         ensures { result ≡ gate_step high self }
     {
         let state = next_state(self, high);
-        let was = self.state;
-        let timer = timer_of(in_prepare(was), in_prepare(state), self.timer, self.timeout);
-        let output = output_of(state, high);
-        let lastprepare = self.prepare_signal();
         Gate {
             state,
-            timer,
-            timeout: self.timeout,
-            mode: self.mode,
-            prepare: self.prepare,
-            recover: self.recover,
+            timer: self.timer_in(state),
             preparepulse: false,
             recoverpulse: false,
-            lastprepare,
-            output,
+            lastprepare: self.prepare_signal(),
+            output: output_of(state, high),
+            ..self
         }
     }
 

@@ -3,4 +3,4 @@
 
 mod gate;
 
-pub use gate::{Gate, GateState, change_gates, gate_bits, in_prepare, output_of, state_word};
+pub use gate::{Gate, GateState, change_gates, gate_bits, output_of, state_word};

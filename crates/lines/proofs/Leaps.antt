@@ -3,18 +3,20 @@
 use Prim.Native.Nat.{ℕ, suc, ◌+◌, ◌-◌, ◌*◌, ◌/◌, ◌%◌, ◌≤◌, ◌<◌}
 use native.Mathlib.Nat.{le_trans, mul-le-mul_left, suc-mul}
 use native.Mathlib.Omega.{arith}
-use mathlib.Core.Bool.{true, false}
+use mathlib.Core.Bool.{Bool, true, false, not}
 use mathlib.Core.List.{List}
 use mathlib.Core.Path.{◌≡◌, ◌∙◌}
 use borrow.Author.Tests.{le-leb, le-ltb, leb-false, leb-true, lt-leb, lt-ltb, ltb-false, ltb-true, not-true}
 use lib.Dec.{leb, ltb}
 use lib.ListN.{get_or, length}
+use Rattle.std.specs.Bool.{MatchBool}
+use Rattle.std.specs.List.{AllWithin, HoldsAt}
 use Rattle.words.specs.Word.{bit, bit_of}
 use Rattle.words.proofs.Packing.{bit_pack}
 use Rattle.bools.proofs.Tests.{cases}
 use Rattle.std.proofs.Math.Bool.{and-not_self}
 use Rattle.lists.specs.Table.{any}
-use Rattle.lists.proofs.Tables.{any_each, any_found, each_stays, each_then, get_or_each}
+use Rattle.lists.proofs.Tables.{all_answer, any_each, each_stays, each_then, get_or_each}
 use Rattle.lines.specs.Leap.{leap_phases, low_phases, phase_after, phase_total, rises_in}
 use Rattle.lines.specs.Lines.{frequencies, frequency, phase_limit, phase_step, phase_sum, rise_of, rises_of, step_phases, test_rise}
 use Rattle.lines.specs.Raw.{count_rises}
@@ -125,7 +127,16 @@ rises_none phases low u h =
     cases (ltb u 55) (λ e. rw e)
     (λ e. rw e (none_rise (u - 55) (get_or phases (u - 55) 0) (low.at (u - 55) (omega (arith, ltb-false u 55 e)))))
 
--- a phase that has reached 125,000 is not low
-pub low_here : (phases : List ℕ) (i : ℕ) → i < 9 → 125000 ≤ get_or phases i 0 → low_phases phases ≡ false
+-- what std's `all` answers of the phases
+pub low_all : (phases : List ℕ) (r : Bool) → length phases ≡ 9 →
+    MatchBool r (AllWithin (λ p. ltb p 125000 ≡ true) phases 0 (length phases)) ((k : ℕ) × (k < length phases) × HoldsAt (λ p. ltb p 125000 ≡ false) phases k) →
+    r ≡ low_phases phases
 unfolding low_phases
-low_here phases i h l = rw (any_found 9 (λ j. leb 125000 (get_or phases j 0)) i h (le-leb _ _ l))
+low_all phases r size m =
+    all_answer 0 phases 9 size (λ p. ltb p 125000) _ r (λ i h. turned (get_or phases i 0)) m
+  where
+    turned : (p : ℕ) → leb phase_limit p ≡ not (ltb p 125000)
+    turned p =
+        cases (ltb p 125000)
+        (λ e. rw (e, lt-leb phase_limit p (ltb-true p 125000 e)))
+        (λ e. rw (e, le-leb phase_limit p (ltb-false p 125000 e)))

@@ -1,19 +1,12 @@
 // The test signals over so many ticks at once: their phases, and the rises that they give.
-ghost use Rattle.std.specs.Prelude.{◌≡◌, ◌*◌, ◌^◌, ◌<◌};
+ghost use Rattle.std.specs.Prelude.{◌≡◌, ◌<◌};
 ghost use Rattle.lists.specs.Table.{tabulate};
-ghost use Rattle.lines.specs.Leap.{leap_phases, low_phases, phase_after, phase_total, rises_in};
+ghost use Rattle.lines.specs.Leap.{leap_phases, low_phases, phase_after, rises_in};
 
 use crate::lines::{LIMIT, Signal};
 use std::array;
 
 impl Signal {
-    // A phase with the signal's frequency added k times.
-    fn phase_total(self, k: u32, phase: u32) -> u64
-        ensures { (result ≡ phase_total k self.number phase) × (result < 72000 * 2 ^ 32) }
-    {
-        (phase as u64) + (k as u64) * (self.frequency() as u64)
-    }
-
     // A phase k ticks on.
     #[tactic(auto, unfolding(crate::specs::Leap::phase_after))]
     fn phase_after(self, k: u32, phase: u32) -> u32
@@ -57,14 +50,8 @@ pub fn rises_in(phases: &[u32; 9], k: u32) -> [u32; 64]
 }
 
 // Whether every phase is below 125,000.
-#[tactic(auto, using(crate::proofs::Leaps::low_here))]
 pub fn low_phases(phases: &[u32; 9]) -> bool
     ensures { result ≡ low_phases phases.now }
 {
-    for phase in phases {
-        if LIMIT <= *phase as u64 {
-            return false;
-        }
-    }
-    true
+    phases.iter().all(|phase| u64::from(*phase) < LIMIT)
 }

@@ -1,33 +1,16 @@
--- `steady_gates` meets its contract: the loop goes on while each gate stays (`any_more`).
-use native.Mathlib.Omega.{arith}
-use mathlib.Core.Bool.{not}
-use mathlib.Core.Path.{◌≡◌, refl, sym, ap, ◌∙◌}
-use Rattle.words.specs.Word.{bit}
-use Rattle.lists.specs.Table.{any}
-use Rattle.lists.proofs.Tables.{any_found, any_more}
-use Rattle.gates.specs.Gate.{gate_at}
-use Rattle.gate_leaps.specs.Leap.{steady, steady_gates}
+-- `steady_gates` meets its contract: each gate stays at the level of its number (`steady_all`).
+use mathlib.Core.Bool.{true, false}
+use mathlib.Core.Path.{◌≡◌}
+use borrow.Author.Rules.{rules}
+use Rattle.std.proofs.lemmas.Iterator.{YieldsList-from_slice, cases_from_all}
+use Rattle.std.proofs.lemmas.Iterator.Consumers.{YieldsList-from_enumerate, YieldsList-at}
+use Rattle.gate_leaps.proofs.Leaps.{stays_at, steady_all}
 use Rattle.gate_leaps.proofs.leap.steady_gates.Goals as goal
 
-pub loop-i-init : goal.loop-i-init
-unfolding any
-loop-i-init c = refl
-
-pub returns-then-not-steady : goal.returns-then-not-steady
-unfolding steady_gates gate_at
-returns-then-not-steady c =
-    let a = c.args in
-    let e = rw (c.bit.ensures.2, c.bit.ensures.1) at c.steady.ensures in
-    rw (any_found 12 (λ g. not (steady a.k (bit a.levels g) (gate_at a.gates.now g))) c.loop-i.i (omega arith) (ap not (sym e ∙ c.if-not-steady.true)))
-
-pub loop-i-preserved : goal.loop-i-preserved
-unfolding gate_at
-loop-i-preserved c =
-    let a = c.args in
-    let e = rw (c.bit.ensures.2, c.bit.ensures.1) at c.steady.ensures in
-    any_more c.loop-i.i (λ g. not (steady a.k (bit a.levels g) (gate_at a.gates.now g))) c.loop-i.invariant (ap not (sym e ∙ c.if-not-steady.false))
-
 pub returns : goal.returns
-unfolding steady_gates
 returns c =
-    let e : c.loop-i.i ≡ 12 = omega arith in rw (rw e at c.loop-i.invariant)
+    let a = c.args in
+    steady_all a.k a.levels a.gates.now c.all.result c.told-gates
+    (cases_from_all _ _ _ (λ p. stays_at a.k a.levels p ≡ true) (λ p. stays_at a.k a.levels p ≡ false) c.all.ensures.ran
+    (YieldsList-from_enumerate (YieldsList-at c.enumerate.ensures.source (YieldsList-from_slice a.gates.now (cc))) (cc))
+    (λ x q k. search rules) (λ x q k. search rules))

@@ -4,4 +4,4 @@ use Rattle.lines.proofs.lines.rises.Goals as goal
 
 pub returns : goal.returns
 returns c =
-    let a = c.args in rw c.test_rises-tests.ensures (rises_are a.before a.now a.phases.now)
+    let a = c.args in rw (c.from-tests.ensures, c.test_rises.ensures) (rises_are a.before a.now a.phases.now)
