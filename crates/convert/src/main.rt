@@ -4,8 +4,6 @@
 
 ghost use Rattle.std.specs.Prelude.{◌≡◌, length};
 
-use std::io::Stderr;
-
 // Nine bytes a frame.
 const LIMIT: usize = 1_179_648;
 
@@ -16,32 +14,23 @@ fn space<const N: usize>() -> [u8; N]
     [0; N]
 }
 
-// Words on standard error.
-fn tell(stderr: &Stderr, words: &[u8]) {
-    let _ = stderr.write_all(words);
-}
-
 fn main(rt: HostRuntime) {
-    let stderr = rt.stderr();
     // the longest capture and one byte more, which tells that there are too many
     let mut buf = space::<1_179_649>();
-    let Ok(n) = standard_input::read_input(&mut rt.stdin(), &mut buf) else {
-        tell(&stderr, b"convert: cannot read standard input\n");
+    let Ok(capture) = standard_input::read_input(&mut rt.stdin(), &mut buf) else {
+        let _ = rt.eprintln("convert: cannot read standard input");
         return;
     };
-    if LIMIT < n {
-        tell(
-            &stderr,
-            b"convert: the capture is longer than 1179648 bytes (131072 frames)\n",
-        );
+    if LIMIT < capture.len() {
+        let _ = rt.eprintln("convert: the capture is longer than 1179648 bytes (131072 frames)");
         return;
     }
     // the trace of the longest capture, whatever it holds: 14 bytes a frame
     let mut out = space::<1_835_008>();
-    match captures::convert(&buf[..n], &mut out) {
+    match captures::convert(capture, &mut out) {
         Ok(bytes) => {
             if rt.write_all(&out[..bytes]).is_err() {
-                tell(&stderr, b"convert: cannot write standard output\n");
+                let _ = rt.eprintln("convert: cannot write standard output");
             }
         }
         // the room for a trace is enough for every capture that is read, so `NoRoom` is not met

@@ -27,8 +27,7 @@ pub fn load<'a, R: Files + Eprint>(rt: &R, file: &[u8], buf: &'a mut [u8]) -> Op
     ensures { IfSome result (λ trace. length trace.now ≤ length buf.old) }
 {
     let mut opened = open_file(rt, file)?;
-    let n = standard_input::read_input(&mut opened, buf).unwrap_or_else(|e| e.length);
-    Some(&buf[..n])
+    Some(standard_input::read_input(&mut opened, buf).unwrap_or_else(|e| e.read))
 }
 
 // A trace, so many times, with 1,000,000 ticks each time.

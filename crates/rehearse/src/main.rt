@@ -4,11 +4,11 @@
 
 fn main(rt: HostRuntime) {
     let mut buf = io::large_buffer();
-    let Ok(n) = standard_input::read_input(&mut rt.stdin(), &mut buf) else {
+    let Ok(trace) = standard_input::read_input(&mut rt.stdin(), &mut buf) else {
         let _ = rt.eprintln("rehearse: cannot read standard input");
         return;
     };
-    let page = printing::rehearse(&buf[..n]);
+    let page = printing::rehearse(trace);
     if rt.write_all(page.as_bytes()).is_err() {
         let _ = rt.eprintln("rehearse: cannot write standard output");
     }
