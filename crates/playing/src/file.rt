@@ -1,9 +1,9 @@
-// Traces in files, played to a crate.
+// Traces in files, played to a machine: a crate with its memory.
 ghost use Rattle.std.specs.Prelude.{◌≡◌, ◌≤◌, IfSome, length};
-ghost use Rattle.device.specs.State.{machine};
+ghost use Rattle.machine.specs.Held.{held};
 ghost use Rattle.playing.specs.Often.{ran_often};
 
-use device::Crate;
+use machine::Machine;
 use std::rt::Files;
 use std::{fs, str};
 
@@ -32,31 +32,25 @@ pub fn load<'a, R: Files + Eprint>(rt: &R, file: &[u8], buf: &'a mut [u8]) -> Op
 
 // A trace, so many times, with 1,000,000 ticks each time.
 #[tactic(auto, using(crate::proofs::Runs::often_less, crate::proofs::Runs::often_done))]
-pub fn run_often(state: &mut Crate, mem: &mut [u16], trace: &[u8], times: u32)
-    ensures { machine state.new mem.new ≡ ran_often times trace.now (machine state.old mem.old) }
+pub fn run_often(machine: &mut Machine, trace: &[u8], times: u32)
+    ensures { held machine.new ≡ ran_often times trace.now (held machine.old) }
 {
     for _ in 0..times {
-        let _report = trace::run(state, mem, trace, 1_000_000);
+        let _report = machine.run(trace, 1_000_000);
     }
 }
 
 // The trace of a file, so many times: of what is read no contract can speak.
-pub fn play_often<R: Files + Eprint>(
-    rt: &R,
-    state: &mut Crate,
-    mem: &mut [u16],
-    file: &[u8],
-    times: u32,
-) {
+pub fn play_often<R: Files + Eprint>(rt: &R, machine: &mut Machine, file: &[u8], times: u32) {
     let mut buf = io::large_buffer();
     if let Some(trace) = load(rt, file, &mut buf) {
-        run_often(state, mem, trace, times);
+        run_often(machine, trace, times);
     }
 }
 
 // The trace of a file from power-up.
-pub fn begin<R: Files + Eprint>(rt: &R, mem: &mut [u16], file: &[u8]) -> Crate {
-    let (mut state, _answer) = registers::power_up(mem);
-    play_often(rt, &mut state, mem, file, 1);
-    state
+pub fn begin<R: Files + Eprint>(rt: &R, file: &[u8]) -> Machine {
+    let mut machine = Machine::new();
+    play_often(rt, &mut machine, file, 1);
+    machine
 }

@@ -7,6 +7,7 @@ ghost use Rattle.printing.specs.Printed.{printed as printed_printed};
 
 use crate::report::put_report;
 use device::Crate;
+use machine::Machine;
 use pages::Page;
 use trace::Report;
 
@@ -42,8 +43,7 @@ pub fn rehearse(input: &[u8]) -> Page
     ensures { written result ≡ program_prints input.now }
 {
     let trace = &input[..input.len().min(65_536)];
-    let mut mem = [0; 16384];
-    let (mut state, _answer) = registers::power_up(&mut mem);
-    let report = trace::run(&mut state, &mut mem, trace, 1_000_000);
-    printed(report, &state, &mem)
+    let mut machine = Machine::new();
+    let report = machine.run(trace, 1_000_000);
+    printed(report, &machine.state, &machine.mem)
 }

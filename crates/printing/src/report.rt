@@ -19,7 +19,7 @@ fn put_stop(page: Page, stop: Stop) -> Page
     }
 }
 
-// The line of a report.
+// The line of a report. Put by hand: what `write!` writes is promised only where it succeeds, and nothing promises that it does on a page.
 #[tactic(auto, using(pages::proofs::Pages::cut_two), unfolding(crate::specs::Printed::report_line))]
 pub fn put_report(page: Page, report: Report) -> Page
     ensures { written result ≡ cut (written page ++ report_line report) }

@@ -2,6 +2,7 @@
 #![tactic(auto)]
 
 use lines::Levels;
+use machine::Machine;
 use pages::Page;
 use playing::write;
 use std::rt::Files;
@@ -15,9 +16,7 @@ struct Check {
 
 impl Check {
     fn run(&self, rt: &(impl Files + Print + Eprint)) {
-        let mut mem = [0; 16384];
-        let state = playing::begin(rt, &mut mem, self.file);
-        let word = registers::read(&state, &mem, self.address).unwrap_or(0);
+        let word = playing::begin(rt, self.file).word(self.address);
         let line = Page::new().put_text(self.shows);
         write(rt, line.put_hexadecimal(4, word.into()).put(b'\n'));
     }
@@ -89,8 +88,7 @@ fn example(rt: &(impl Files + Print + Eprint)) {
 
 // The tick of the first rise of a test signal, counted by counter 0 on a direct gate, if there is one in 20,000.
 fn first_rise(signal: u16) -> Option<u64> {
-    let mut mem = [0; 16384];
-    let (mut state, _answer) = registers::power_up(&mut mem);
+    let Machine { mut state, mut mem } = Machine::new();
     registers::write(&mut state, &mut mem, 0x1000, 0x0D80 + signal % 64).ok()?;
     registers::write(&mut state, &mut mem, 0x0802, 1).ok()?;
     let levels = Levels {

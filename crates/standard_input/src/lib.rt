@@ -16,10 +16,7 @@ pub struct ReadError<'a> {
 // Reads until the buffer is full, the input ends or a read fails, and lends the bytes that it read, the first of the buffer; it asks for no
 // byte past the buffer. Of the bytes of standard input or of a file no contract can speak: what a read brings is the system's. Nor does one
 // name the buffer after the call: it is lent out.
-pub fn read_input<'a, R: Read>(
-    reader: &mut R,
-    buf: &'a mut [u8],
-) -> Result<&'a [u8], ReadError<'a>>
+pub fn read_input<'a, R: Read>(reader: &mut R, buf: &'a mut [u8]) -> Result<&'a [u8], ReadError<'a>>
     ensures read { IfOk result (λ bytes. length bytes.now ≤ length buf.old) }
     ensures read_before { IfErr result (λ e. length e.read.now ≤ length buf.old) }
 {

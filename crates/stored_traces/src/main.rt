@@ -3,7 +3,7 @@
 // bytes and its budget of ticks in eight, high byte first.
 #![tactic(auto)]
 
-use device::Crate;
+use machine::Machine;
 use pages::Page;
 use playing::write;
 use std::io::Read;
@@ -20,19 +20,18 @@ fn fold(d: u32, word: u16) -> u32 {
 }
 
 // Of the words of the registers from 0x0600 to 0x19FF, and of the memory.
-fn digest(state: &Crate, mem: &[u16; 16384]) -> u32 {
+fn digest(machine: &Machine) -> u32 {
     (0x0600..0x1A00)
-        .map(|address| registers::read(state, mem, address).unwrap_or(0))
-        .chain(mem.iter().copied())
+        .map(|address| machine.word(address))
+        .chain(machine.mem.iter().copied())
         .fold(0, fold)
 }
 
 fn run(rt: &impl Print, stored: Stored<'_>) {
-    let mut mem = [0; 16384];
-    let (mut state, _answer) = registers::power_up(&mut mem);
-    let report = trace::run(&mut state, &mut mem, stored.trace, stored.budget);
+    let mut machine = Machine::new();
+    let report = machine.run(stored.trace, stored.budget);
     let told = printing::put_report(Page::new(), report).put_text(b"DIGEST ");
-    let d = digest(&state, &mem);
+    let d = digest(&machine);
     write(rt, told.put_hexadecimal(8, d.into()).put(b'\n'));
 }
 
@@ -56,6 +55,7 @@ fn main(rt: HostRuntime) {
         return;
     };
     let mut buf = io::large_buffer();
+    // a bound, as nothing says that a file ends
     for _ in 0..10_000 {
         let Some(stored) = next_trace(&mut file, &mut buf) else {
             return;
