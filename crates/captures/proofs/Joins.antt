@@ -1,13 +1,18 @@
 -- Which frames are the same, and the repeat that goes on over frames.
-use Prim.Native.Nat.{ℕ, ◌+◌, ◌≤◌}
+use Prim.Native.Nat.{ℕ, zero, suc, ◌+◌, ◌≤◌, min}
+use native.Mathlib.Nat.{add-zero}
 use native.Mathlib.Omega.{arith}
-use mathlib.Core.Bool.{Bool, true, false, ◌&&◌}
+use mathlib.Core.Bool.{true, false}
 use mathlib.Core.List.{List, [], ◌∷◌, map}
-use mathlib.Core.Path.{◌≡◌, refl, sym, ◌∙◌}
-use borrow.Author.Tests.{eqb-true, eq-eqb}
+use mathlib.Core.Path.{◌≡◌, refl}
+use borrow.Author.Tests.{eqb-true, eq-eqb, le-ltb, lt-ltb}
 use lib.Dec.{eqb, ltb}
-use lib.ListN.{length, length-map}
+use lib.ListN.{drop, length, length-map, take}
+use Rattle.std.proofs.Math.Nat.{min_comm}
 use Rattle.std.proofs.lemmas.Bool.{and_parts}
+use Rattle.std.proofs.lemmas.List.{take_min}
+use Rattle.std.specs.List.{prefix_len}
+use Rattle.bools.proofs.Tests.{cases}
 use Rattle.captures.specs.Captures.{frame_at, same_frame}
 use Rattle.captures.specs.Nine.{frames_in, records_in}
 use Rattle.captures.specs.Repeats.{Repeat, Tells, joined, joined_from, repeat}
@@ -42,20 +47,29 @@ pub going_first : (x : Frame) (array : List ℕ) (rest : List (List ℕ)) {array
 unfolding joined frames_in
 going_first x array rest s e = rw (s, e) refl
 
-module _ (x : Frame) (n : ℕ) where
-  -- nothing follows
-  pub going_last : (arrays : List (List ℕ)) → length arrays ≡ 0 → going x n arrays ≡ repeat n x ∷ records_in arrays
-  unfolding joined joined_from frames_in
-  going_last [] e = refl
-  going_last (array ∷ arrays) e = absurd (omega (arith, e))
+-- how many of the frames are x, among the first m
+abbrev pub standing : Frame → ℕ → List (List ℕ) → ℕ
+standing x m arrays = prefix_len (λ (array : List ℕ). same_frame x (frame_at array 0)) (take m arrays)
 
-  -- y follows, and r tells whether it joins
-  module _ (y : Frame) (array : List ℕ) (rest : List (List ℕ)) {arrays : List (List ℕ)} (s : arrays ≡ array ∷ rest) (e : y ≡ frame_at array 0)
-      {r : Bool} (t : r ≡ same_frame x y && ltb n largest_repeat) where
-    pub going_on : r ≡ true → going x n arrays ≡ going x (n + 1) rest
-    unfolding joined_from frames_in
-    going_on h = let j : same_frame x (frame_at array 0) && ltb n largest_repeat ≡ true = rw (← e) (sym t ∙ h) in rw (s, j)
+-- the frames within reach
+pub near : (m : ℕ) (arrays : List (List ℕ)) {n : ℕ} → n ≡ min (length arrays) m → take n arrays ≡ take m arrays
+near m arrays e = rw (e, min_comm, take_min)
 
-    pub going_over : r ≡ false → going x n arrays ≡ repeat n x ∷ records_in arrays
-    unfolding joined joined_from frames_in
-    going_over h = let j : same_frame x (frame_at array 0) && ltb n largest_repeat ≡ false = rw (← e) (sym t ∙ h) in rw (s, j)
+-- x stands n times, and once more for each frame behind it that is the same, as far as a repeat goes
+pub going_all : (x : Frame) (m n : ℕ) (arrays : List (List ℕ)) → n + m ≡ largest_repeat →
+    going x n arrays ≡ repeat (n + standing x m arrays) x ∷ records_in (drop (standing x m arrays) arrays)
+unfolding joined joined_from frames_in
+going_all x zero n [] e = rw add-zero
+going_all x zero n (array ∷ arrays) e =
+    let l : ltb n largest_repeat ≡ false = le-ltb n largest_repeat (omega (arith, e)) in
+    cases (same_frame x (frame_at array 0)) (λ s. rw (s, l, add-zero)) (λ s. rw (s, add-zero))
+going_all x (suc m) n [] e = rw add-zero
+going_all x (suc m) n (array ∷ arrays) e =
+    let l : ltb n largest_repeat ≡ true = lt-ltb n largest_repeat (omega (arith, e)) in
+    cases (same_frame x (frame_at array 0))
+    (λ s.
+    let k : ℕ = standing x m arrays in
+    let d : 1 + k ≡ suc k = omega arith in
+    let c : n + suc k ≡ n + 1 + k = omega arith in
+    rw (s, l, d, c) (going_all x m (n + 1) arrays (omega (arith, e))))
+    (λ s. rw (s, add-zero))

@@ -1,13 +1,13 @@
 -- Laws of the loop that writes a trace, record by record.
-use Prim.Native.Nat.{ℕ, ◌+◌, ◌≤◌}
+use Prim.Native.Nat.{ℕ, ◌+◌, ◌*◌, ◌≤◌}
 use native.Mathlib.Omega.{arith}
 use mathlib.Core.List.{List, [], ◌∷◌, ◌++◌, append_assoc, append-nil}
-use mathlib.Core.Path.{◌≡◌, sym, ap, subst, ◌∙◌}
+use mathlib.Core.Path.{◌≡◌, refl, sym, ap, subst, ◌∙◌}
 use lib.ListN.{length, drop, take, length-append, length-drop, take-append-drop}
 use lib.Seq.{drop-drop, length-take-le, take_at, drop_at}
 use Rattle.captures.specs.Repeats.{Repeat}
 use Rattle.captures.specs.Written.{Frame, record_bytes, written}
-use Rattle.captures.proofs.Written.{length_record}
+use Rattle.captures.proofs.Written.{length_record, length_written}
 
 -- the bytes written so far: of the trace t the repeats rs are still to come, from place at on
 pub record Wrote (t out₀ : List ℕ) (at : ℕ) (rs : List (Repeat Frame)) (out : List ℕ) : Type 0 where
@@ -22,6 +22,17 @@ written_more r rs = length-append (record_bytes r) (written rs) ∙ rw (length_r
 
 pub wrote_by : {t out₀ out : List ℕ} {at : ℕ} {rs qs : List (Repeat Frame)} → rs ≡ qs → Wrote t out₀ at rs out → Wrote t out₀ at qs out
 wrote_by {t} {out₀} {out} {at} e w = subst (λ (qs : List (Repeat Frame)). Wrote t out₀ at qs out) e w
+
+pub wrote_at : {t out₀ out : List ℕ} {at to : ℕ} {rs : List (Repeat Frame)} → at ≡ to → Wrote t out₀ at rs out → Wrote t out₀ to rs out
+wrote_at {t} {out₀} {out} {at} {to} {rs} e w = subst (λ (n : ℕ). Wrote t out₀ n rs out) e w
+
+-- at first nothing is written
+pub wrote_none : {out : List ℕ} (rs : List (Repeat Frame)) → length (written rs) ≤ length out → Wrote (written rs) out 0 rs out
+wrote_none rs h = record { size = refl; room = omega (arith, h); is = refl; kept = refl }
+
+-- the records written and those still to come are few
+pub wrote_few : {t out₀ out : List ℕ} {rs : List (Repeat Frame)} (n : ℕ) → Wrote t out₀ (14 * n) rs out → n + length rs ≤ length out₀
+wrote_few {t} {out₀} {out} {rs} n w = omega (arith, w.room, length_written rs)
 
 -- room for the next record
 pub wrote_room : {t out₀ out : List ℕ} {at : ℕ} {r : Repeat Frame} {rs : List (Repeat Frame)} → Wrote t out₀ at (r ∷ rs) out → at + 14 ≤ length out

@@ -1,5 +1,6 @@
 // The frames of a capture, and the longest repeats of equal neighbours.
-ghost use Rattle.std.specs.Prelude.{◌≡◌, ◌&&◌, ltb};
+ghost use Rattle.std.specs.Prelude.{◌≡◌, ◌≤◌, ◌-◌, length, take};
+ghost use Rattle.std.specs.List.{prefix_len};
 ghost use Rattle.captures.specs.Captures.{frame_at, is_bad, same_frame};
 ghost use Rattle.captures.specs.Nine.{frame_of};
 ghost use Rattle.captures.specs.Written.{largest_repeat};
@@ -46,6 +47,27 @@ impl Nine {
     {
         self.levels().are_bad()
     }
+
+    // Whether it is the frame of these bytes.
+    #[tactic(auto, using(crate::proofs::Nines::same_nine), unfolding(crate::specs::Nine::frame_of))]
+    fn stands_in(self, bytes: &[u8; FRAME_BYTES]) -> bool
+        ensures { result ≡ same_frame (frame_of self) (frame_at bytes.now 0) }
+    {
+        self == Nine::from(bytes)
+    }
+
+    // How many of the frames behind it go on with its repeat, as far as a repeat goes.
+    fn joined(self, behind: &[[u8; FRAME_BYTES]]) -> usize
+        ensures joined { result ≡ prefix_len (λ array. same_frame (frame_of self) (frame_at array 0)) (take (largest_repeat - 1) behind.now) }
+        ensures there { result ≤ length behind.now }
+        ensures few { result ≤ largest_repeat - 1 }
+    {
+        let reach = behind.len().min(usize::from(u16::MAX - 1));
+        behind[..reach]
+            .iter()
+            .take_while(|bytes| self.stands_in(bytes))
+            .count()
+    }
 }
 
 // A frame, and how often it stands.
@@ -53,16 +75,6 @@ impl Nine {
 pub struct Repeat {
     pub times: u16,
     pub frame: Nine,
-}
-
-impl Repeat {
-    // Whether the next frame goes on with it.
-    #[tactic(auto, using(crate::proofs::Nines::same_nine), unfolding(crate::specs::Nine::frame_of))]
-    fn joins(self, next: Nine) -> bool
-        ensures { result ≡ same_frame (frame_of self.frame) (frame_of next) && ltb self.times largest_repeat }
-    {
-        self.frame == next && self.times < u16::MAX
-    }
 }
 
 // The repeats that frames become, in order.
@@ -90,19 +102,13 @@ impl Iterator for Repeats<'_> {
     ghost remaining = { item_count records_left };
 
     fn next(&mut self) -> Option<Repeat> {
-        let (first, mut behind) = self.frames.split_first()?;
-        let mut repeat = Repeat {
-            times: 1,
-            frame: Nine::from(first),
-        };
-        while let Some((next, rest)) = behind.split_first() {
-            if !repeat.joins(Nine::from(next)) {
-                break;
-            }
-            repeat.times += 1;
-            behind = rest;
-        }
-        self.frames = behind;
-        Some(repeat)
+        let (first, behind) = self.frames.split_first()?;
+        let frame = Nine::from(first);
+        let more = frame.joined(behind);
+        self.frames = behind.split_at(more).1;
+        Some(Repeat {
+            times: 1 + more as u16,
+            frame,
+        })
     }
 }

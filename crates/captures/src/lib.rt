@@ -21,12 +21,12 @@ pub enum Refusal {
     NoRoom,
 }
 
-impl Refusal {
-    // The number of the table of causes.
-    pub fn number(self) -> u16
-        ensures { result ≡ number_of self }
-    {
-        match self {
+// The number of the table of causes.
+impl From<Refusal> for u16 {
+    ghost from_gives = { λ why number. number ≡ number_of why };
+
+    fn from(why: Refusal) -> u16 {
+        match why {
             Refusal::NotFrames => 12,
             Refusal::BadLevel { .. } => 6,
             Refusal::NoRoom => 13,

@@ -4,7 +4,7 @@ ghost use Rattle.captures.specs.Nine.{bytes_in, repeat_of, trace_in};
 ghost use Rattle.captures.specs.Written.{record_bytes, record_length};
 
 use crate::Refusal;
-use crate::frames::{FRAME_BYTES, Repeat, Repeats};
+use crate::frames::{FRAME_BYTES, Nine, Repeat, Repeats};
 
 // A tick record: header, repeat, levels.
 const RECORD_BYTES: usize = 14;
@@ -30,16 +30,11 @@ impl Repeat {
 pub fn trace_bytes(frames: &[[u8; FRAME_BYTES]]) -> Result<usize, Refusal>
     ensures { result ≡ bytes_in frames.now }
 {
-    let mut frame = 0;
-    let mut records = 0;
-    for repeat in Repeats::of(frames) {
-        if repeat.frame.is_bad() {
-            return Err(Refusal::BadLevel { frame });
-        }
-        frame += usize::from(repeat.times);
-        records += 1;
+    let bad = |bytes: &[u8; FRAME_BYTES]| Nine::from(bytes).is_bad();
+    if let Some(frame) = frames.iter().position(bad) {
+        return Err(Refusal::BadLevel { frame });
     }
-    Ok(RECORD_BYTES * records)
+    Ok(RECORD_BYTES * Repeats::of(frames).count())
 }
 
 // The trace of frames, over an output that has room for it; bytes past it stay.
@@ -47,9 +42,8 @@ pub fn write_trace(frames: &[[u8; FRAME_BYTES]], out: &mut [u8])
     requires { length (trace_in frames.now) ≤ length out.old }
     ensures { out.new ≡ trace_in frames.now ++ drop (length (trace_in frames.now)) out.old }
 {
-    let mut at = 0;
-    for repeat in Repeats::of(frames) {
+    for (record, repeat) in Repeats::of(frames).enumerate() {
+        let at = RECORD_BYTES * record;
         repeat.put(&mut out[at..at + RECORD_BYTES]);
-        at += RECORD_BYTES;
     }
 }

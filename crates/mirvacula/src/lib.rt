@@ -156,7 +156,7 @@ fn unanswered_code(bytes: usize) -> u16
     if bytes % 9 == 0 {
         BAD_BUFFER
     } else {
-        Refusal::NotFrames.number()
+        Refusal::NotFrames.into()
     }
 }
 
@@ -182,7 +182,7 @@ pub extern "C" fn mirvacula_convert(capture: &[u8], out: &mut [u8], answer: &mut
     };
     let (number, length, frame) = match captures::convert(capture, out) {
         Ok(bytes) => (0, bytes as u64, 0),
-        Err(why) => (why.number(), 0, frame_in(why)),
+        Err(why) => (u16::from(why), 0, frame_in(why)),
     };
     *answer = [length, frame];
     number
