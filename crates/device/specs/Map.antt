@@ -1,6 +1,6 @@
 -- The register map: the Manual's sections 3.2.3 to 3.2.14 as document 01, "Writes and event tags", settles them; and the raw counts of
 -- document 02, request 1.
-use Rattle.std.specs.Prelude.{ℕ, ◌+◌, ◌-◌, ◌*◌, ◌/◌, ◌%◌, Option, Some, None, eqb, ltb}
+use Rattle.std.specs.Prelude.{ℕ, ◌-◌, ◌/◌, ◌%◌, Option, Some, None, eqb, ltb}
 use Rattle.std.specs.Option.{option_map_or}
 use Rattle.bools.specs.Pick.{pick}
 use Rattle.words.specs.Word.{lowest}
@@ -16,15 +16,12 @@ use Rattle.device.specs.declared.map.Status.TheVariants.{GateStates, TagLow, Tag
 abbrev pub below : ℕ → ℕ → Option Register → Option Register → Option Register
 below a edge here rest = pick (ltb a edge) here rest
 
--- an output's block is 22 registers "with a raster of 32 addresses"; they are numbered on from output to output
+-- an output's block is 22 registers "with a raster of 32 addresses": output and place in its block
 abbrev pub output_words : ℕ
 output_words = 22
 
-abbrev pub selection_number : ℕ → ℕ → ℕ
-selection_number o k = output_words * o + k
-
 abbrev pub output_block : ℕ → Option Register
-output_block k = pick (ltb (k % 32) output_words) (Some (Other (Selection (selection_number (k / 32) (k % 32))))) None
+output_block k = pick (ltb (k % 32) output_words) (Some (Other (Selection (k / 32) (k % 32)))) None
 
 -- The map in address order, a superblock or two to a page. A row is the first address past it and what stands up to there; gaps are
 -- rows of their own: "an address at which they name no register, or one not modelled, is not in it". A Readout is read-only;
@@ -133,7 +130,7 @@ abbrev pub setting_bits : Setting → ℕ
 setting_bits (Mask k) = 12
 setting_bits WatchdogTimeout = 16
 setting_bits (WatchdogReset k) = pick (eqb k 3) 6 16
-setting_bits (Selection j) = selection_bits (j % output_words)
+setting_bits (Selection o k) = selection_bits k
 
 abbrev pub used_bits : Register → ℕ
 used_bits (Readout r) = status_bits r

@@ -57,7 +57,7 @@ with_queue cm q = common_of cm.control cm.key cm.enable cm.reload q cm.loader cm
 
 -- what no counter sees
 
-abbrev pub rest_of : List ℕ → ℕ → List ℕ → List Watchdog → List ℕ → ℕ → Events → Rest
+abbrev pub rest_of : List ℕ → ℕ → List (List ℕ) → List Watchdog → List ℕ → ℕ → Events → Rest
 rest_of masks timeout selections watchdogs rawcounts gatelevels events = record {
   masks = masks;
   timeout = timeout;
@@ -96,8 +96,8 @@ common0 = common_of 0 0 0 0 queue0 loader0 (tabulate 9 (λ k. 0))
 
 abbrev pub rest0 : Rest
 rest0 =
-    rest_of (tabulate 6 (λ k. 0)) 65535 (tabulate 132 (λ k. 0)) (tabulate input_count (λ i. watchdog0)) (tabulate input_count (λ i. 0)) 0
-    (events_of 0 0 0 0)
+    rest_of (tabulate 6 (λ k. 0)) 65535 (tabulate 6 (λ o. tabulate 22 (λ k. 0))) (tabulate input_count (λ i. watchdog0))
+    (tabulate input_count (λ i. 0)) 0 (events_of 0 0 0 0)
 
 unfoldable pub power_up : Crate
 power_up = crate_of (tabulate counter_count (λ n. counter0)) (tabulate 32 (λ k. 0)) (tabulate gate_count (λ g. gate0)) 0 common0 rest0

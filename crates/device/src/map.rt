@@ -48,8 +48,8 @@ pub enum Setting {
     Mask(u16),
     WatchdogTimeout,
     WatchdogReset(u16),
-    // 22 words an output, one output after the other
-    Selection(u16),
+    // a word of an output's block, which has 22
+    Selection { output: u16, place: u16 },
 }
 
 // A page's function takes a whole address, and promises what stands there from the page's first one on. By the place within the page a read of
@@ -126,8 +126,9 @@ fn event_map(a: u16) -> Option<Register>
 fn output_block(k: u16) -> Option<Register>
     ensures { result ≡ output_block k }
 {
-    if k % 32 < 22 {
-        return Some(Register::Other(Setting::Selection(22 * (k / 32) + k % 32)));
+    let (output, place) = (k / 32, k % 32);
+    if place < 22 {
+        return Some(Register::Other(Setting::Selection { output, place }));
     }
     None
 }

@@ -57,7 +57,7 @@ pub struct Rest {
     // registers 0x0630 to 0x0635, 0x0800, and 22 of each output's block
     pub masks: [u16; 6],
     pub timeout: u16,
-    pub selections: [u16; 132],
+    pub selections: [[u16; 22]; 6],
     // beside the raw counts: each is stepped, reset and read by itself, and nothing takes both of one input
     pub watchdogs: [Watchdog; 54],
     // registers 0x1300 to 0x136B: how often each input has risen since power-up, modulo 2^32
@@ -75,7 +75,7 @@ impl Default for Rest {
         Rest {
             masks: [0; 6],
             timeout: 65535,
-            selections: [0; 132],
+            selections: [[0; 22]; 6],
             watchdogs: [Watchdog::default(); 54],
             rawcounts: [0; 54],
             gatelevels: 0,

@@ -1,7 +1,7 @@
 -- The numbers of document 01, section by section, in rows that fail where a number is wrong by one, also where definition and code are wrong
 -- alike: what is expected is written by hand from the paper, what a definition computes stands beside it. docs/TRACEABILITY.md, "Numbers of
 -- document 01", names the row of each number; where `worked` or `bench` has one, it is not written again.
-use Prim.Native.Nat.{ℕ, zero, suc, ◌+◌, ◌-◌, ◌*◌, ◌/◌, ◌%◌, ◌^◌}
+use Prim.Native.Nat.{ℕ, zero, suc, ◌+◌, ◌-◌, ◌*◌, ◌^◌}
 use mathlib.Core.List.{List, [], ◌∷◌, ◌++◌}
 use lib.Dec.{eqb, ltb}
 use lib.ListN.{get_or, length, replicate}
@@ -268,7 +268,7 @@ abbrev pub setting_address : Setting → ℕ
 setting_address (Mask k) = in_block 0x0630 6 k  -- IOBP_MASK
 setting_address WatchdogTimeout = 0x0800  -- WDOG_TIMEOUT
 setting_address (WatchdogReset k) = in_block 0x0810 4 k  -- WD_RESET
-setting_address (Selection j) = pick (ltb j 132) (0x1100 + 32 * (j / 22) + j % 22) 0  -- OUT_SEL
+setting_address (Selection o k) = pick (ltb o 6) (in_block (0x1100 + 32 * o) 22 k) 0  -- OUT_SEL
 
 abbrev pub address_of : Register → ℕ
 address_of (Readout r) = status_address r

@@ -61,11 +61,11 @@ first_is n f =
     (λ e. first_none n f e ∙ rw e)
 
 -- selection word k of output o finds a signal
-abbrev finds : List ℕ → (ℕ → ℕ) → ℕ → ℕ → Bool
+abbrev finds : List (List ℕ) → (ℕ → ℕ) → ℕ → ℕ → Bool
 finds selections present o k = meets (selected selections o k) (present k)
 
 -- what is kept of the outputs after k words of each
-abbrev pub ended_after : List ℕ → (ℕ → ℕ) → ℕ → List (Option ℕ)
+abbrev pub ended_after : List (List ℕ) → (ℕ → ℕ) → ℕ → List (Option ℕ)
 ended_after selections present k = tabulate output_count (λ o. first (finds selections present o) k)
 
 meets_none : (present : ℕ) → meets 0 present ≡ false
@@ -76,7 +76,7 @@ kept_next : (e : Option ℕ) (word present k : ℕ) → pick (meets (word_next e
 kept_next None word present k = refl
 kept_next (Some w) word present k = rw (meets_none present)
 
-module _ (selections : List ℕ) (present : ℕ → ℕ) where
+module _ (selections : List (List ℕ)) (present : ℕ → ℕ) where
   pub ended_none : tabulate output_count (λ o. None) ≡ ended_after selections present 0
   unfolding first
   ended_none = refl

@@ -1,5 +1,5 @@
 -- Document 01, "Watchdogs and interlocks", and the Manual's section 2.3.2 and Tables 3.26 to 3.29: the six outputs.
-use Rattle.std.specs.Prelude.{ℕ, ◌-◌, Bool, not, ◌&&◌, List, ltb, get_or}
+use Rattle.std.specs.Prelude.{ℕ, ◌-◌, Bool, not, ◌&&◌, List, [], ltb, get_or}
 use Rattle.bools.specs.Pick.{pick}
 use Rattle.words.specs.Word.{bit, pack}
 use Rattle.lists.specs.Table.{any}
@@ -9,7 +9,7 @@ use Rattle.lines.specs.Lines.{gate_count}
 use Rattle.watchdogs.specs.Watchdog.{error_of, watchdog_word}
 use Rattle.device.specs.declared.state.Crate.{Crate}
 use Rattle.device.specs.declared.state.Rest.{Rest}
-use Rattle.device.specs.Map.{output_words, selection_number}
+use Rattle.device.specs.Map.{output_words}
 
 -- gate inputs that were low at the last accepted tick, all of them at power-up: "Signals from gate inputs are pre-inverted"
 abbrev pub low_gates : Rest → ℕ
@@ -27,8 +27,8 @@ signals s k =
     (pick (ltb k 0x10) (overflow_word is_over s.counters (k - 0x08)) (other_signals (gate_bits failed s.gates) s.rest k))
 
 -- selection word k of output o
-abbrev pub selected : List ℕ → ℕ → ℕ → ℕ
-selected selections o k = get_or selections (selection_number o k) 0
+abbrev pub selected : List (List ℕ) → ℕ → ℕ → ℕ
+selected selections o k = get_or (get_or selections o []) k 0
 
 -- some signal is selected and present
 abbrev pub meets : ℕ → ℕ → Bool

@@ -18,7 +18,7 @@ word_next None word = word
 word_next (Some w) word = 0
 
 -- word k of all outputs
-unfoldable pub words_next : List (Option ℕ) → List ℕ → ℕ → List ℕ
+unfoldable pub words_next : List (Option ℕ) → List (List ℕ) → ℕ → List ℕ
 words_next ended selections k = tabulate output_count (λ o. word_next (get_or ended o None) (selected selections o k))
 
 -- where the scans ended, after the words read next and the signals that they choose from; so many words were read

@@ -20,12 +20,12 @@ pub struct OutputScan {
 }
 
 // Word k of each output that is still 1; no signal for the others.
-fn words_next(ended: &[Option<u16>; 6], selections: &[u16; 132], k: usize) -> [u16; 6]
+fn words_next(ended: &[Option<u16>; 6], selections: &[[u16; 22]; 6], k: usize) -> [u16; 6]
     requires { k < 22 }
     ensures { result ≡ words_next ended.now selections.now k }
 {
     array::from_fn(|o| match ended[o] {
-        None => selections[22 * o + k],
+        None => selections[o][k],
         Some(_) => 0,
     })
 }

@@ -21,7 +21,7 @@ use Rattle.device.specs.declared.map.Status.{Status}
 use Rattle.device.specs.declared.map.Status.TheVariants.{Module, Negative, Positive, GateErrors, WatchdogErrors, GateInputs, GateOutputs, Outputs}
 use Rattle.device.specs.declared.map.Status.TheVariants.{GateStates, TagLow, TagHigh, Code, LoaderState, LoaderCounter, Count, Raw, Threshold}
 use Rattle.device.specs.declared.state.Crate.{Crate}
-use Rattle.interlocks.specs.Interlock.{interlocks}
+use Rattle.interlocks.specs.Interlock.{interlocks, selected}
 use Rattle.device.specs.Map.{decode_of}
 use Rattle.device.specs.State.{Machine}
 
@@ -67,7 +67,7 @@ unfoldable pub setting_word : Crate → Setting → ℕ
 setting_word s (Mask k) = get_or s.rest.masks k 0
 setting_word s WatchdogTimeout = s.rest.timeout
 setting_word s (WatchdogReset k) = watchdog_word reset_of s.rest.watchdogs k
-setting_word s (Selection j) = get_or s.rest.selections j 0
+setting_word s (Selection o k) = selected s.rest.selections o k
 
 unfoldable pub word_in : Machine → Register → ℕ
 word_in m (Readout r) = status_word m.state r

@@ -100,7 +100,10 @@ fn setting_word(s: &Crate, r: Setting) -> u16
         Setting::Mask(k) => at(&s.rest.masks, k),
         Setting::WatchdogTimeout => s.rest.timeout,
         Setting::WatchdogReset(k) => watchdogs::reset_word(&s.rest.watchdogs, k),
-        Setting::Selection(j) => at(&s.rest.selections, j),
+        Setting::Selection { output, place } => {
+            let block = s.rest.selections.get(usize::from(output));
+            block.map_or(0, |words| at(words, place))
+        }
     }
 }
 

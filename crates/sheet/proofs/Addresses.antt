@@ -1,5 +1,5 @@
 -- Each register of the map has one address: so two addresses of the map name two registers.
-use Prim.Native.Nat.{ℕ, ◌+◌, ◌*◌, ◌/◌, ◌%◌, ◌<◌, ◌≤◌}
+use Prim.Native.Nat.{ℕ, ◌+◌, ◌*◌, ◌<◌, ◌≤◌}
 use native.Mathlib.Omega.{arith}
 use mathlib.Core.Path.{◌≡◌, refl, sym, subst, ◌∙◌}
 use Rattle.std.proofs.lemmas.Bool.Decides.{nat_tests}
@@ -39,7 +39,7 @@ abbrev setting_address : Setting → ℕ
 setting_address (Mask k) = 0x0630 + k
 setting_address WatchdogTimeout = 0x0800
 setting_address (WatchdogReset k) = 0x0810 + k
-setting_address (Selection j) = 0x1100 + (32 * (j / 22) + j % 22)
+setting_address (Selection o k) = 0x1100 + (32 * o + k)
 
 abbrev pub address_of : Register → ℕ
 address_of (Readout q) = status_address q
@@ -61,7 +61,7 @@ address_of (Word i) = 0x8000 + i
 abbrev pub InBlock : Setting → Type 0
 InBlock (Mask k) = k < 6
 InBlock (WatchdogReset k) = k < 4
-InBlock (Selection j) = j < 132
+InBlock (Selection o k) = (o < 6) × (k < 22)
 InBlock WatchdogTimeout = Unit
 
 abbrev pub InMap : Register → Type 0

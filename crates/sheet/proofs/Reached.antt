@@ -40,9 +40,10 @@ use Rattle.registers.specs.Calls.{Call, tick, write, tag, download, after, calle
 use Rattle.device.specs.Map.{decode_of, kept, used_bits}
 use Rattle.device.proofs.Found.{found}
 use Rattle.device.specs.State.{Machine, common0, memory0, power_up, with_groups, with_memory, with_registers, with_rest, with_state}
+use Rattle.interlocks.specs.Interlock.{selected}
 use Rattle.tagging.specs.Tag.{noted_in, tag_of, tag_request}
 use Rattle.ticking.specs.Tick.{common_tick, rest_tick, tick_of}
-use Rattle.writing.specs.Write.{control_write, dataset_in, enable_write, group_in, key_write, on_common, on_counters, on_gates, reload_answer, reload_write, request_answer, requested, reset_by, rest_write, with_reload, write_at}
+use Rattle.writing.specs.Write.{control_write, dataset_in, enable_write, group_in, key_write, on_common, on_counters, on_gates, reload_answer, reload_write, request_answer, requested, reset_by, rest_write, with_reload, with_selected, write_at}
 use Rattle.registers.proofs.Whole.{accepted, length_replaced}
 use Rattle.sheet.specs.Reachable.{CommonInRange, CounterInRange, GateInRange, OfWords, Reached, RequestInRange, RestInRange}
 use Rattle.sheet.proofs.Changes.{tag_by}
@@ -164,9 +165,17 @@ reset_in_lem : (b : Bool) (w : Watchdog) → w.value ≤ watchdog_top → (with_
 unfolding with_reset
 reset_in_lem b w h = let z : 0 ≤ watchdog_top = omega arith in both (λ (x : Watchdog). x.value ≤ watchdog_top) (w.reset && not b) z h
 
+selections_in : (xss : List (List ℕ)) (o k w : ℕ) → ((p q : ℕ) → selected xss p q < 2 ^ used_bits (Other (Selection p q))) →
+    (p q : ℕ) → selected (with_selected xss o k (kept (Other (Selection o k)) w)) p q < 2 ^ used_bits (Other (Selection p q))
+selections_in xss o k w h =
+    all_set [] (λ p words. (q : ℕ) → get_or words q 0 < 2 ^ used_bits (Other (Selection p q))) (λ p q. pow_pos (used_bits (Other (Selection p q)))) xss o _
+    (all_set 0 (λ q n. n < 2 ^ used_bits (Other (Selection o q))) (λ q. pow_pos (used_bits (Other (Selection o q)))) (get_or xss o []) k _
+    (kept_lt (Other (Selection o k)) w) (h o))
+    h
+
 rest_in : (r : Setting) (w : ℕ) (rest : Rest) → RestInRange rest → RestInRange (rest_write r w rest)
 unfolding rest_write reset_watchdogs reset_in
-rest_in r w rest h = grind (arith, common_steps, kept_lt, watchdogs_in, reset_in_lem)
+rest_in r w rest h = grind (arith, common_steps, kept_lt, watchdogs_in, reset_in_lem, selections_in)
 
 -- ---- calls: one law for each change of the machine
 
@@ -370,8 +379,9 @@ reached_start = record {
     masks = all_tabulate 0 (λ k n. n < 2 ^ used_bits (Other (Mask k))) (λ k. lit< tt) 6 _ (λ k. lit< tt);
     timeout = lit< tt;
     selections =
-        all_tabulate 0 (λ j n. n < 2 ^ used_bits (Other (Selection j))) (λ j. pow_pos (used_bits (Other (Selection j)))) 132 _
-        (λ j. pow_pos (used_bits (Other (Selection j))));
+        all_tabulate [] (λ o words. (k : ℕ) → get_or words k 0 < 2 ^ used_bits (Other (Selection o k))) (λ o k. pow_pos (used_bits (Other (Selection o k)))) 6 _
+        (λ o. all_tabulate 0 (λ k n. n < 2 ^ used_bits (Other (Selection o k))) (λ k. pow_pos (used_bits (Other (Selection o k)))) 22 _
+        (λ k. pow_pos (used_bits (Other (Selection o k)))));
     watchdogs = all_tabulate watchdog0 (λ i w. w.value ≤ watchdog_top) (λ i. omega arith) 54 _ (λ i. omega arith);
     rawcounts = all_tabulate 0 (λ i n. n < 2 ^ 32) (λ i. lit< tt) 54 _ (λ i. lit< tt);
     gatelevels = lit< tt;

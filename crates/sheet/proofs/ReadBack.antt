@@ -3,7 +3,7 @@ use Prim.Native.Nat.{ℕ, ◌+◌, ◌-◌, ◌*◌, ◌/◌, ◌%◌, ◌^◌, 
 use native.Mathlib.Nat.{lt_of_lt_of_le, mod-lt}
 use native.Mathlib.Omega.{arith}
 use mathlib.Core.Bool.{Bool, false, not, ◌&&◌, true≢false}
-use mathlib.Core.List.{List}
+use mathlib.Core.List.{List, []}
 use mathlib.Core.Path.{◌≡◌, refl, sym, ap, ◌∙◌}
 use borrow.Author.Tests.{eq-eqb, eqb-false, eqb-true, ltb-false, ltb-true, ne_eqb}
 use lib.Dec.{eqb, ltb}
@@ -19,8 +19,8 @@ use Rattle.words.proofs.Fields.{bit_low}
 use Rattle.words.proofs.Gather.{pack_ext, pack_is}
 use Rattle.words.proofs.Packing.{bit_past}
 use Rattle.bools.proofs.Tests.{both, cases}
-use Rattle.lists.specs.Table.{each}
-use Rattle.lists.proofs.Tables.{get_or_each, length_each, length_tabulate}
+use Rattle.lists.specs.Table.{each, tabulate}
+use Rattle.lists.proofs.Tables.{get_d_tabulate, get_or_each, length_each, length_tabulate}
 use Rattle.counters.specs.declared.counter.Counter.{Counter}
 use Rattle.gates.specs.declared.gate.Gate.{Gate}
 use Rattle.watchdogs.specs.declared.watchdog.Watchdog.{Watchdog}
@@ -53,7 +53,7 @@ use Rattle.tagging.specs.Tag.{noted_in, tag_of}
 use Rattle.ticking.specs.Tick.{rest_tick, tick_of}
 use Rattle.lines.specs.Lines.{bad_levels}
 use Rattle.writing.specs.Write.{control_write, enable_write, key_write, on_common, on_counters, on_gates, reload_answer, reload_write, requested, reset_by, rest_write}
-use Rattle.writing.specs.Write.{with_reload, write_answer, write_at}
+use Rattle.writing.specs.Write.{with_reload, with_selected, write_answer, write_at}
 use Rattle.registers.proofs.Whole.{full, step_called}
 use Rattle.sheet.specs.Follows.{follows, follows_at}
 use Rattle.sheet.proofs.Addresses.{InBlock, InMap, address_of, placed_as}
@@ -66,7 +66,8 @@ use Rattle.sheet.proofs.Projection.{Sized}
 
 record RestSized (r : Rest) : Type 0 where
   masks : length r.masks ≡ 6
-  selections : length r.selections ≡ 132
+  selections : length r.selections ≡ 6
+  blocks : (o : ℕ) → o < 6 → length (get_or r.selections o []) ≡ 22
   watchdogs : length r.watchdogs ≡ 54
 
 abbrev RestIn : Machine → Type 0
@@ -75,11 +76,22 @@ RestIn m = RestSized m.state.rest
 abbrev RestOf : Crate → Type 0
 RestOf s = RestSized s.rest
 
+blocks_written : (xss : List (List ℕ)) (o k w : ℕ) → length xss ≡ 6 → ((p : ℕ) → p < 6 → length (get_or xss p []) ≡ 22) →
+    (p : ℕ) → p < 6 → length (get_or (with_selected xss o k w) p []) ≡ 22
+blocks_written xss o k w size h p l = grind (arith, common_steps, length-set)
+
 rest_write_lem : (q : Setting) (w : ℕ) (r : Rest) → RestSized r → RestSized (rest_write q w r)
 unfolding rest_write reset_watchdogs
 rest_write_lem (Mask k) w r h = assumption (length-set r.masks k (kept (Other (Mask k)) w) ∙ h.masks)
 rest_write_lem (WatchdogReset k) w r h = assumption (length_each 54 watchdog0 (reset_in k w) r.watchdogs)
-rest_write_lem (Selection j) w r h = assumption (length-set r.selections j (kept (Other (Selection j)) w) ∙ h.selections)
+rest_write_lem (Selection o k) w r h =
+    let v = kept (Other (Selection o k)) w in
+    record {
+      masks = h.masks;
+      selections = length-set r.selections o _ ∙ h.selections;
+      blocks = blocks_written r.selections o k v h.selections h.blocks;
+      watchdogs = h.watchdogs;
+    }
 rest_write_lem WatchdogTimeout w r h = assumption
 
 rest_written : (m : Machine) → RestIn m → (r : Register) (w : ℕ) → RestIn (write_at m r w)
@@ -90,7 +102,7 @@ rest_written m h r w = h
 rest_ticked : (s : Crate) (memory : List ℕ) (inputs gates : ℕ) → RestOf s → RestOf (tick_of s memory inputs gates)
 unfolding tick_of rest_tick step_watchdogs
 rest_ticked s memory inputs gates h = record
-    { masks = h.masks; selections = h.selections; watchdogs = length_each 54 watchdog0 _ s.rest.watchdogs }
+    { masks = h.masks; selections = h.selections; blocks = h.blocks; watchdogs = length_each 54 watchdog0 _ s.rest.watchdogs }
 
 rest_tagged : (s : Crate) (t : ℕ) → RestOf s → RestOf (tag_of s t)
 rest_tagged s t h = let n : RestOf (noted_in s t) = assumption in tag_by RestOf s t h n n n n n
@@ -108,7 +120,12 @@ rest_step m h x = both RestIn (is_whole m.memory) (rest_called m h x) h
 
 rest_start : RestIn machine0
 unfolding power_up
-rest_start = record { masks = length_tabulate 6 _; selections = length_tabulate 132 _; watchdogs = length_tabulate 54 _ }
+rest_start = record {
+  masks = length_tabulate 6 _;
+  selections = length_tabulate 6 _;
+  blocks = λ o h. ap length (get_d_tabulate 6 (λ o. tabulate 22 (λ k. 0)) o [] h) ∙ length_tabulate 22 _;
+  watchdogs = length_tabulate 54 _;
+}
 
 rest_after : (l : List Call) → RestIn (after l)
 unfolding after
@@ -198,7 +215,9 @@ setting_back s h (WatchdogReset k) l w =
     let p : k < 3 = omega (arith, eqb-false k 3 e) in
     resets_back 16 k w s.rest.watchdogs (omega arith) (λ b i. omega arith) (λ b i j. absurd (omega arith))
     ∙ ap (λ (b : Bool). w % 2 ^ pick b 6 16) (sym e))
-setting_back s h (Selection j) l w = get_or-set_same s.rest.selections j _ 0 (omega (arith, h.selections))
+setting_back s h (Selection o k) l w =
+    ap (λ (words : List ℕ). get_or words k 0) (get_or-set_same s.rest.selections o _ [] (omega (arith, h.selections, l.0)))
+    ∙ get_or-set_same (get_or s.rest.selections o []) k _ 0 (omega (arith, h.blocks o l.0, l.1))
 
 -- a request that is refused stores nothing, and is no accepted write
 reload_back : (w : ℕ) (cm : Common) → reload_answer w cm ≡ Ok tt → (reload_write w cm).reload ≡ kept Reload w
@@ -266,7 +285,7 @@ record RestApart (r : Register) (x y : Rest) : Type 0 where
   masks : (k : ℕ) → (r ≡ Other (Mask k) → ⊥) → get_or x.masks k 0 ≡ get_or y.masks k 0
   timeout : (r ≡ Other WatchdogTimeout → ⊥) → x.timeout ≡ y.timeout
   resets : (k : ℕ) → (r ≡ Other (WatchdogReset k) → ⊥) → watchdog_word reset_of x.watchdogs k ≡ watchdog_word reset_of y.watchdogs k
-  selections : (j : ℕ) → (r ≡ Other (Selection j) → ⊥) → get_or x.selections j 0 ≡ get_or y.selections j 0
+  selections : (o k : ℕ) → (r ≡ Other (Selection o k) → ⊥) → selected x.selections o k ≡ selected y.selections o k
   errors : (k : ℕ) → follows r (Readout (WatchdogErrors k)) ≡ false →
       watchdog_word error_of x.watchdogs k ≡ watchdog_word error_of y.watchdogs k
   rawcounts : x.rawcounts ≡ y.rawcounts
@@ -472,9 +491,14 @@ watchdog_reset_apart k w x s =
     λ j f. watchdogs_apart error_of k w x.watchdogs s.watchdogs j (eqb-false j k f) in
     assumption
 
-selection_apart : (k w : ℕ) (x : Rest) → RestApart (Other (Selection k)) (rest_write (Selection k) w x) x
+-- one word of a block is written
+selected_apart : (xss : List (List ℕ)) (o k w : ℕ) (p q : ℕ) → (Other (Selection o k) ≡ Other (Selection p q) → ⊥) →
+    selected (with_selected xss o k w) p q ≡ selected xss p q
+selected_apart xss o k w p q d = grind (arith, common_steps)
+
+selection_apart : (o k w : ℕ) (x : Rest) → RestApart (Other (Selection o k)) (rest_write (Selection o k) w x) x
 unfolding rest_write
-selection_apart k w x = assumption (word_apart_from (λ i. Other (Selection i)) x.selections k (kept (Other (Selection k)) w))
+selection_apart o k w x = assumption (selected_apart x.selections o k (kept (Other (Selection o k)) w))
 
 setting_written : (m : Machine) → RestIn m → (r : Setting) (w : ℕ) →
     Apart (Other r) (with_state m (with_rest m.state (rest_write r w m.state.rest))) m
@@ -483,7 +507,7 @@ setting_written m h (Mask k) w =
 setting_written m h WatchdogTimeout w =
     apart_rest _ m _ (watchdog_timeout_apart w m.state.rest) (λ f. unfold rest_write interlocks trips signals in refl)
 setting_written m h (WatchdogReset k) w = apart_rest _ m _ (watchdog_reset_apart k w m.state.rest h) (λ f. absurd (true≢false f))
-setting_written m h (Selection j) w = apart_rest _ m _ (selection_apart j w m.state.rest) (λ f. absurd (true≢false f))
+setting_written m h (Selection o k) w = apart_rest _ m _ (selection_apart o k w m.state.rest) (λ f. absurd (true≢false f))
 
 apart_written : (m : Machine) → Sized m → RestIn m → (r : Register) → InMap r → (w : ℕ) → Apart r (write_at m r w) m
 unfolding write_at

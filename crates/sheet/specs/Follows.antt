@@ -77,7 +77,7 @@ abbrev pub follows_setting : Setting → Status → Bool
 follows_setting (Mask k) q = false
 follows_setting WatchdogTimeout q = false
 follows_setting (WatchdogReset k) q = follows_reset k q
-follows_setting (Selection j) q = follows_selection q
+follows_setting (Selection o k) q = follows_selection q
 
 abbrev pub status_follows : Register → Status → Bool
 status_follows (Readout r) q = false

@@ -20,6 +20,7 @@ use Rattle.device.specs.declared.state.Events.{Events}
 use Rattle.device.specs.declared.state.Rest.{Rest}
 use Rattle.registers.specs.Calls.{Call, tick, write, tag, download}
 use Rattle.device.specs.Map.{used_bits}
+use Rattle.interlocks.specs.Interlock.{selected}
 use Rattle.device.specs.State.{Machine}
 
 -- a count and thresholds of 32 bits in two's complement, an input register of 16
@@ -72,7 +73,7 @@ pub record EventsInRange (e : Events) : Type 0 where
 pub record RestInRange (r : Rest) : Type 0 where
   pub masks : (k : ℕ) → get_or r.masks k 0 < 2 ^ used_bits (Other (Mask k))
   pub timeout : r.timeout < 2 ^ used_bits (Other WatchdogTimeout)
-  pub selections : (j : ℕ) → get_or r.selections j 0 < 2 ^ used_bits (Other (Selection j))
+  pub selections : (o k : ℕ) → selected r.selections o k < 2 ^ used_bits (Other (Selection o k))
   pub watchdogs : (i : ℕ) → (watchdog_at r.watchdogs i).value ≤ watchdog_top
   pub rawcounts : (i : ℕ) → raw_at r.rawcounts i < 2 ^ 32
   pub gatelevels : r.gatelevels < 2 ^ gate_count

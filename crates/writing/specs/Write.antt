@@ -1,5 +1,5 @@
 -- Document 01, "Writes and event tags": what a write answers and does.
-use Rattle.std.specs.Prelude.{ℕ, Bool, not, ◌&&◌, List, set, Ok, Err}
+use Rattle.std.specs.Prelude.{ℕ, Bool, not, ◌&&◌, List, [], get_or, set, Ok, Err}
 use Rattle.bools.specs.Pick.{pick}
 use Rattle.words.specs.Word.{bit, field_of}
 use Rattle.counters.specs.declared.counter.Counter.{Counter}
@@ -62,6 +62,10 @@ key_write w cm = with_registers cm cm.control (kept Key w) cm.enable cm.reload
 unfoldable pub enable_write : ℕ → Common → Common
 enable_write w cm = with_registers cm cm.control cm.key (kept Enable w) cm.reload
 
+-- a word of an output's block
+abbrev pub with_selected : List (List ℕ) → ℕ → ℕ → ℕ → List (List ℕ)
+with_selected selections o k w = set selections o (set (get_or selections o []) k w)
+
 -- registers that no counter sees
 unfoldable pub rest_write : Setting → ℕ → Rest → Rest
 rest_write (Mask k) w r =
@@ -70,8 +74,8 @@ rest_write WatchdogTimeout w r =
     rest_of r.masks (kept (Other WatchdogTimeout) w) r.selections r.watchdogs r.rawcounts r.gatelevels r.events
 rest_write (WatchdogReset k) w r =
     rest_of r.masks r.timeout r.selections (reset_watchdogs k w r.watchdogs) r.rawcounts r.gatelevels r.events
-rest_write (Selection j) w r =
-    rest_of r.masks r.timeout (set r.selections j (kept (Other (Selection j)) w)) r.watchdogs r.rawcounts r.gatelevels r.events
+rest_write (Selection o k) w r =
+    rest_of r.masks r.timeout (with_selected r.selections o k (kept (Other (Selection o k)) w)) r.watchdogs r.rawcounts r.gatelevels r.events
 
 -- cause 3, then for 0x0A02 those of a request
 unfoldable pub write_answer : Common → Register → ℕ → Answer

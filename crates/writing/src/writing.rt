@@ -1,13 +1,12 @@
 // What a write to each register answers and does.
 ghost use Rattle.std.specs.Prelude.{◌≡◌};
 ghost use Rattle.bools.specs.Pick.{pick};
+ghost use Rattle.words.specs.Word.{lowest};
 ghost use Rattle.loader.specs.Loader.{pushed};
-ghost use Rattle.device.specs.declared.map.Register.TheVariants.{Other};
-ghost use Rattle.device.specs.declared.map.Setting.TheVariants.{Selection};
 ghost use Rattle.device.specs.Answer.{is_done};
-ghost use Rattle.device.specs.Map.{kept};
+ghost use Rattle.device.specs.Map.{selection_bits};
 ghost use Rattle.device.specs.State.{machine, with_common, with_counters, with_queue};
-ghost use Rattle.writing.specs.Write.{request_answer, triggers, reload_answer, reload_write, control_write, rest_write, write_answer, reset_by, write_at};
+ghost use Rattle.writing.specs.Write.{request_answer, triggers, reload_answer, reload_write, control_write, with_selected, rest_write, write_answer, reset_by, write_at};
 
 use device::{Common, Crate, Refusal, Register, Rest, Setting};
 use gates::Gate;
@@ -48,14 +47,23 @@ fn write_reload(cm: &mut Common, word: u16) -> Result<(), Refusal>
 }
 
 // The used bits of an output's selection word.
-#[tactic(auto, using(bools::proofs::Tests::tests), unfolding(device::specs::Map::kept))]
-fn keep_selection(j: u16, word: u16) -> u16
-    ensures { result ≡ kept (Other (Selection j)) word }
+#[tactic(auto, using(bools::proofs::Tests::tests))]
+fn keep_selection(place: u16, word: u16) -> u16
+    ensures { result ≡ lowest (selection_bits place) word }
 {
-    match j % 22 {
+    match place {
         0x10 | 0x15 => word % 4096,
         0x14 => word % 64,
         _ => word,
+    }
+}
+
+// A word of an output's block set, and nothing past the end.
+fn write_selection(selections: &mut [[u16; 22]; 6], output: usize, place: usize, word: u16)
+    ensures { selections.new ≡ with_selected selections.old output place word }
+{
+    if output < 6 {
+        lists::change(&mut selections[output], place, |_| word);
     }
 }
 
@@ -70,8 +78,9 @@ fn write_setting(rest: &mut Rest, r: Setting, word: u16)
         Setting::WatchdogReset(k) => {
             watchdogs::reset_watchdogs(&mut rest.watchdogs, k.into(), word);
         }
-        Setting::Selection(j) => {
-            lists::change(&mut rest.selections, j.into(), |_| keep_selection(j, word));
+        Setting::Selection { output, place } => {
+            let kept = keep_selection(place, word);
+            write_selection(&mut rest.selections, output.into(), place.into(), kept);
         }
     }
 }
