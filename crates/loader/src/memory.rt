@@ -30,7 +30,8 @@ pub struct CounterNumber {
     ghost one_of_128: { number < 128 },
 }
 
-// A counter with the thresholds of counter n in a dataset's part.
+// A counter with the thresholds of counter n in a dataset's part. Parts are slices: of a memory lent on as arrays (`as_chunks_mut`), which
+// `download` would write, std does not say what it ends as.
 #[tactic(auto, unfolding(crate::specs::Memory::loaded, crate::specs::Memory::word_at))]
 fn load_from(part: &[u16], n: CounterNumber, c: Counter) -> Counter
     requires { length part.now ≡ 512 }
