@@ -20,12 +20,12 @@ pub struct OutputScan {
 }
 
 // Word k of each output that is still 1; no signal for the others.
-fn words_next(ended: &[Option<u16>; 6], selections: &[[u16; 22]; 6], k: usize) -> [u16; 6]
+fn words_next(ended: &[Option<u16>; 6], selections: &[[u16; 22]; 6], k: u16) -> [u16; 6]
     requires { k < 22 }
     ensures { result ≡ words_next ended.now selections.now k }
 {
     array::from_fn(|o| match ended[o] {
-        None => selections[o][k],
+        None => selections[o][usize::from(k)],
         Some(_) => 0,
     })
 }
@@ -56,7 +56,7 @@ fn ended(s: &Crate) -> [Option<u16>; 6]
     for k in 0..22 {
         let words = words_next(&ended, &s.rest.selections, k);
         if words != [0; 6] {
-            let next = ended_next(&ended, &words, signals(s, k), (k + 1) as u16);
+            let next = ended_next(&ended, &words, signals(s, k), k + 1);
             ended = next;
         }
     }

@@ -15,14 +15,14 @@ fn low_gates(rest: &Rest) -> u16
 
 // The signals that selection word k of an output chooses from, in the order of the addresses.
 #[tactic(auto, using(bools::proofs::Tests::tests), unfolding(crate::specs::Interlock::signals))]
-pub fn signals(s: &Crate, k: usize) -> u16
+pub fn signals(s: &Crate, k: u16) -> u16
     ensures { result ≡ signals s.now k }
 {
     match k {
-        0x00..=0x07 => counters::overflow_word(&s.counters, k as u16, Counter::is_under),
-        0x08..=0x0F => counters::overflow_word(&s.counters, (k - 0x08) as u16, Counter::is_over),
+        0x00..=0x07 => counters::overflow_word(&s.counters, k, Counter::is_under),
+        0x08..=0x0F => counters::overflow_word(&s.counters, k - 0x08, Counter::is_over),
         0x10 => gates::gate_bits(&s.gates, Gate::failed),
-        0x11..=0x14 => watchdogs::error_word(&s.rest.watchdogs, (k - 0x11) as u16),
+        0x11..=0x14 => watchdogs::error_word(&s.rest.watchdogs, k - 0x11),
         _ => low_gates(&s.rest),
     }
 }
