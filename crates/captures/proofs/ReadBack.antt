@@ -8,13 +8,11 @@ use mathlib.Core.Path.{◌≡◌, refl, sym, subst, ◌∙◌}
 use borrow.Author.Tests.{eqb-false}
 use lib.Dec.{eqb, ltb}
 use lib.ListN.{length, get_or, length-append}
-use Rattle.std.proofs.Common.{Ok, Err}
+use Rattle.std.proofs.Common.{Some, None, Ok, Err}
 use Rattle.bools.proofs.Tests.{pick_elim}
 use Rattle.records.specs.declared.Record.TheVariants.{Ticks, Write, Tag}
-use Rattle.records.specs.declared.Stop.{Stop}
-use Rattle.records.specs.declared.Stop.TheVariants.{End, Spent, Memory, UnknownTag, WrongLength, Cut, NoRepeat}
 use Rattle.records.specs.Records.{Found, header_bytes, is_known, length_at, next_at, number_at, payload_at, payload_bytes, record_at, repeat_bytes, tag_at, ticks_at}
-use Rattle.captures.specs.ReadBack.{before, behind_last, repeats_by, repeats_from, repeats_in}
+use Rattle.captures.specs.ReadBack.{before, repeats_by, repeats_from, repeats_in}
 use Rattle.captures.specs.Repeats.{Fit, none as fit_none, more, Repeat}
 use Rattle.captures.specs.Written.{Frame, largest_repeat, record_bytes, written}
 use Rattle.captures.proofs.Levels.{Good, good_none, good_more}
@@ -44,10 +42,11 @@ written_read rs good = read_from rs good (length (written rs) + 1) [] (omega (ar
 
 -- the repeat of a tick record
 unfoldable times_in : Found → ℕ
-times_in (Err stop) = 1
-times_in (Ok (Ticks n levels)) = n
-times_in (Ok (Write a w)) = 1
-times_in (Ok (Tag e)) = 1
+times_in (Err cause) = 1
+times_in (Ok None) = 1
+times_in (Ok (Some (Ticks n levels))) = n
+times_in (Ok (Some (Write a w))) = 1
+times_in (Ok (Some (Tag e))) = 1
 
 abbrev Fits : Found → Type 0
 Fits x = (1 ≤ times_in x) × (times_in x ≤ largest_repeat)
@@ -85,23 +84,15 @@ module _ (t : List ℕ) (bytes : (i : ℕ) → get_or t i 0 < 256) where
       one : (1 ≤ 1) × (1 ≤ largest_repeat)
       one = (omega arith, omega arith)
 
-  fit_last : (stop : Stop) (rs : List (Repeat Frame)) → behind_last stop ≡ some rs → Fit largest_repeat rs
-  fit_last End rs e = subst (Fit largest_repeat) (some-injective _ _ e) fit_none
-  fit_last Spent rs e = absurd (none-ne-some _ e)
-  fit_last Memory rs e = absurd (none-ne-some _ e)
-  fit_last UnknownTag rs e = absurd (none-ne-some _ e)
-  fit_last WrongLength rs e = absurd (none-ne-some _ e)
-  fit_last Cut rs e = absurd (none-ne-some _ e)
-  fit_last NoRepeat rs e = absurd (none-ne-some _ e)
-
   fit_by : (x : Found) → Fits x → (rest : Option (List (Repeat Frame))) → ((qs : List (Repeat Frame)) → rest ≡ some qs → Fit largest_repeat qs) →
       (rs : List (Repeat Frame)) → repeats_by x rest ≡ some rs → Fit largest_repeat rs
   unfolding repeats_by before times_in
-  fit_by (Err stop) h rest f rs e = fit_last stop rs e
-  fit_by (Ok (Ticks n levels)) h none f rs e = absurd (none-ne-some _ e)
-  fit_by (Ok (Ticks n levels)) h (some qs) f rs e = subst (Fit largest_repeat) (some-injective _ _ e) (more h.0 h.1 (f qs refl))
-  fit_by (Ok (Write a w)) h rest f rs e = absurd (none-ne-some _ e)
-  fit_by (Ok (Tag tag)) h rest f rs e = absurd (none-ne-some _ e)
+  fit_by (Err cause) h rest f rs e = absurd (none-ne-some _ e)
+  fit_by (Ok None) h rest f rs e = subst (Fit largest_repeat) (some-injective _ _ e) fit_none
+  fit_by (Ok (Some (Ticks n levels))) h none f rs e = absurd (none-ne-some _ e)
+  fit_by (Ok (Some (Ticks n levels))) h (some qs) f rs e = subst (Fit largest_repeat) (some-injective _ _ e) (more h.0 h.1 (f qs refl))
+  fit_by (Ok (Some (Write a w))) h rest f rs e = absurd (none-ne-some _ e)
+  fit_by (Ok (Some (Tag tag))) h rest f rs e = absurd (none-ne-some _ e)
 
   pub read_fits : (fuel at : ℕ) (rs : List (Repeat Frame)) → repeats_from fuel t at ≡ some rs → Fit largest_repeat rs
   unfolding repeats_from

@@ -5,12 +5,11 @@ use native.Mathlib.Omega.{arith}
 use mathlib.Core.Bool.{false}
 use mathlib.Core.List.{List, [], ◌∷◌, ◌++◌, append_assoc}
 use mathlib.Core.Path.{◌≡◌, refl, sym, ap, ◌∙◌}
-use Rattle.std.proofs.Common.{Err}
+use Rattle.std.proofs.Common.{None, Ok}
 use borrow.Author.Tests.{ne_eqb, le-ltb}
 use lib.Dec.{eqb, lit<}
 use lib.ListN.{length, get_or, length-append}
 use lib.Seq.{get_or-append-add, get_or_at}
-use Rattle.records.specs.declared.Stop.TheVariants.{End}
 use Rattle.records.specs.Records.{number_at, next_at, levels_at, ticks_at, payload_at, record_at}
 use Rattle.captures.specs.Repeats.{Repeat}
 use Rattle.captures.specs.Written.{Frame, bytes, level_bytes, tick_record, record_bytes, record_of, written}
@@ -124,7 +123,7 @@ pub next_read_at : (p : List ℕ) (r : Repeat Frame) (rest : List ℕ) → next_
 next_read_at p r rest = rw add-zero at (next_behind p (record_bytes r ++ rest) 0) ∙ rw next_read
 
 -- at the end nothing is left
-pub end_read : (p : List ℕ) → record_at p (length p) ≡ Err End
+pub end_read : (p : List ℕ) → record_at p (length p) ≡ Ok None
 unfolding record_at
 end_read p = let e : length p - length p ≡ 0 = omega arith in rw e
 

@@ -1,9 +1,7 @@
 -- Document 02, CR 2: "Reading the result back gives the frames": what a trace of tick records holds, by the reader that runs use.
-use Rattle.std.specs.Prelude.{ℕ, zero, suc, ◌+◌, List, [], ◌∷◌, Ok, Err, length}
+use Rattle.std.specs.Prelude.{ℕ, zero, suc, ◌+◌, List, [], ◌∷◌, Some, None, Ok, Err, length}
 use Rattle.std.proofs.Math.Option.{Option, some, none}
 use Rattle.records.specs.declared.Record.TheVariants.{Ticks, Write, Tag}
-use Rattle.records.specs.declared.Stop.{Stop}
-use Rattle.records.specs.declared.Stop.TheVariants.{End}
 use Rattle.records.specs.Records.{Found, next_at, record_at}
 use Rattle.captures.specs.Repeats.{Repeat, repeat}
 use Rattle.captures.specs.Written.{Frame}
@@ -13,17 +11,13 @@ unfoldable pub before : Repeat Frame → Option (List (Repeat Frame)) → Option
 before r none = none
 before r (some rs) = some (r ∷ rs)
 
--- where no record stands: the trace is read to its end, or it is malformed
-abbrev pub behind_last : Stop → Option (List (Repeat Frame))
-behind_last End = some []
-behind_last _ = none
-
--- by a record and what follows it
+-- by a record and what follows it: where none stands the trace is read to its end, and where a cause stands it is malformed
 unfoldable pub repeats_by : Found → Option (List (Repeat Frame)) → Option (List (Repeat Frame))
-repeats_by (Err stop) rest = behind_last stop
-repeats_by (Ok (Ticks n levels)) rest = before (repeat n levels) rest
-repeats_by (Ok (Write a w)) rest = none
-repeats_by (Ok (Tag e)) rest = none
+repeats_by (Err cause) rest = none
+repeats_by (Ok None) rest = some []
+repeats_by (Ok (Some (Ticks n levels))) rest = before (repeat n levels) rest
+repeats_by (Ok (Some (Write a w))) rest = none
+repeats_by (Ok (Some (Tag e))) rest = none
 
 unfoldable pub repeats_from : ℕ → List ℕ → ℕ → Option (List (Repeat Frame))
 repeats_from zero t at = none

@@ -1,5 +1,5 @@
 -- Document 02, CR 2: "A converter writes tick records": the bytes of a record and of a trace of tick records.
-use Rattle.std.specs.Prelude.{ℕ, zero, suc, ◌+◌, ◌/◌, ◌%◌, List, [], ◌∷◌, ◌++◌, Ok}
+use Rattle.std.specs.Prelude.{ℕ, zero, suc, ◌+◌, ◌/◌, ◌%◌, List, [], ◌∷◌, ◌++◌, Some, Ok}
 use Rattle.lines.specs.declared.levels.Levels.{Levels}
 use Rattle.records.specs.declared.Record.TheVariants.{Ticks}
 use Rattle.records.specs.Records.{Found, gate_bytes, header_bytes, input_bytes, repeat_bytes, tick_bytes}
@@ -47,4 +47,4 @@ written (r ∷ rs) = record_bytes r ++ written rs
 
 -- the record that a repeat is to the reader of traces
 abbrev pub record_of : Repeat Frame → Found
-record_of r = Ok (Ticks r.times r.element)
+record_of r = Ok (Some (Ticks r.times r.element))

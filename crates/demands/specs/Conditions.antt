@@ -1,6 +1,6 @@
 -- Demand 1 on one page, to be laid beside document 01's "Causes of refusal": the conditions of each call in the order in which they are
 -- looked at, what each cause returns and what it leaves; then the checks of a record, in theirs.
-use Rattle.std.specs.Prelude.{ℕ, ◌+◌, ◌-◌, ◌*◌, Bool, true, false, not, ◌&&◌, List, [], ◌∷◌, ◌≡◌, eqb, ltb, length, Result, Ok, Err}
+use Rattle.std.specs.Prelude.{ℕ, ◌+◌, ◌-◌, ◌*◌, Bool, true, false, not, ◌&&◌, List, [], ◌∷◌, ◌≡◌, eqb, ltb, length, Some, None, Result, Ok, Err}
 use Rattle.std.specs.Option.{option_map_or}
 use Rattle.bools.specs.Pick.{pick}
 use Rattle.device.specs.declared.answer.Refusal.{Refusal}
@@ -17,8 +17,9 @@ use Rattle.loader.specs.Memory.{dataset_words, is_whole, replaced}
 use Rattle.reading.specs.Read.{word_in}
 use Rattle.records.specs.declared.Record.TheVariants.{Ticks, Write, Tag}
 use Rattle.records.specs.declared.Stop.{Stop}
-use Rattle.records.specs.declared.Stop.TheVariants.{End, Spent, UnknownTag, WrongLength, Cut, NoRepeat}
-use Rattle.records.specs.declared.Stop.TheVariants.{Memory as MemoryStop}
+use Rattle.records.specs.declared.Stop.TheVariants.{End, Spent, Refused}
+use Rattle.records.specs.declared.Cause.TheVariants.{UnknownTag, WrongLength, Cut, NoRepeat}
+use Rattle.records.specs.declared.Cause.TheVariants.{Memory as MemoryCause}
 use Rattle.records.specs.Records.{Found, gate_bytes, header_bytes, input_bytes, is_known, length_at, number_at, payload_bytes, record_at, repeat_bytes, tag_at}
 use Rattle.registers.specs.Calls.{Call, tick, write, tag, download}
 use Rattle.tagging.specs.Tag.{command_of, events_on, noted_in, right_key, tag_of}
@@ -146,7 +147,7 @@ unfoldable pub shown_by : Machine → Act → Answer → Seen
 shown_by m (calling x) a = answered a (number_of a)
 shown_by m (reading b) a = told (giving a (option_map_or (word_in m) (decode_of b) 0)) (number_of a)
 shown_by m scanning a = scanned (giving a (scan_in m.state)) (number_of a)
-shown_by m (tracing t budget) a = numbered (pick (is_done a) (run_of t budget m).progress.report (report_of MemoryStop 0 0 0 0))
+shown_by m (tracing t budget) a = numbered (pick (is_done a) (run_of t budget m).progress.report (report_of (Refused MemoryCause) 0 0 0 0))
 
 -- ---- "Left as it was"
 
@@ -208,11 +209,11 @@ bad_levels_in t at = bad_levels (inputs_in t at) (gates_in t at)
 unfoldable pub checks : List ℕ → ℕ → ℕ → List (Condition Fate)
 checks t at ticksleft =
     on (stopped End) (eqb (length t - at) 0)
-    ∷ on (stopped Cut) (ltb (length t - at) header_bytes)
-    ∷ on (stopped UnknownTag) (not (is_known (tag_at t at)))
-    ∷ on (stopped WrongLength) (not (eqb (length_at t at) (payload_bytes (tag_at t at))))
-    ∷ on (stopped Cut) (ltb (length t - at) (header_bytes + length_at t at))
-    ∷ on (stopped NoRepeat) (is_ticks t at && eqb (repeat_in t at) 0)
+    ∷ on (stopped (Refused Cut)) (ltb (length t - at) header_bytes)
+    ∷ on (stopped (Refused UnknownTag)) (not (is_known (tag_at t at)))
+    ∷ on (stopped (Refused WrongLength)) (not (eqb (length_at t at) (payload_bytes (tag_at t at))))
+    ∷ on (stopped (Refused Cut)) (ltb (length t - at) (header_bytes + length_at t at))
+    ∷ on (stopped (Refused NoRepeat)) (is_ticks t at && eqb (repeat_in t at) 0)
     ∷ on refused_tick (is_ticks t at && bad_levels_in t at)
     ∷ on (stopped Spent) (is_ticks t at && ltb ticksleft (repeat_in t at))
     ∷ []
@@ -223,16 +224,18 @@ fate_of t at ticksleft = first (checks t at ticksleft) passed_on
 
 -- the ticks that a passed record uses, and whether its call is refused
 abbrev pub ticks_used : Found → ℕ
-ticks_used (Err stop) = 0
-ticks_used (Ok (Ticks n levels)) = n
-ticks_used (Ok (Write a w)) = 0
-ticks_used (Ok (Tag e)) = 0
+ticks_used (Err cause) = 0
+ticks_used (Ok None) = 0
+ticks_used (Ok (Some (Ticks n levels))) = n
+ticks_used (Ok (Some (Write a w))) = 0
+ticks_used (Ok (Some (Tag e))) = 0
 
 abbrev pub refused_in : Machine → Found → Bool
-refused_in m (Err stop) = false
-refused_in m (Ok (Ticks n levels)) = false
-refused_in m (Ok (Write a w)) = not (is_done (cause_of m (calling (write a w))))
-refused_in m (Ok (Tag e)) = not (is_done (cause_of m (calling (tag e))))
+refused_in m (Err cause) = false
+refused_in m (Ok None) = false
+refused_in m (Ok (Some (Ticks n levels))) = false
+refused_in m (Ok (Some (Write a w))) = not (is_done (cause_of m (calling (write a w))))
+refused_in m (Ok (Some (Tag e))) = not (is_done (cause_of m (calling (tag e))))
 
 -- the run behind that record, `next`: it stops, and all is as it was; or the calls of the record are made, and "A call refused by 2 to 6
 -- counts once and the run goes on, using no ticks"
@@ -255,10 +258,11 @@ pub data Goes (t : List ℕ) (budget : ℕ) (q : Run) : Run → Type 0 where
 
 -- "A record is a tag byte, a two-byte length, a payload" of 11 or 4 bytes: what the records that a run passes take, and so where the next stands
 abbrev pub bytes_of : Found → ℕ
-bytes_of (Err stop) = 0
-bytes_of (Ok (Ticks n levels)) = 14
-bytes_of (Ok (Write a w)) = 7
-bytes_of (Ok (Tag e)) = 7
+bytes_of (Err cause) = 0
+bytes_of (Ok None) = 0
+bytes_of (Ok (Some (Ticks n levels))) = 14
+bytes_of (Ok (Some (Write a w))) = 7
+bytes_of (Ok (Some (Tag e))) = 7
 
 abbrev pub bytes_in : List Found → ℕ
 bytes_in [] = 0

@@ -5,7 +5,7 @@ use Prim.Native.Nat.{ℕ, zero, suc, ◌+◌, ◌-◌, ◌*◌, ◌^◌}
 use mathlib.Core.List.{List, [], ◌∷◌, ◌++◌}
 use lib.Dec.{eqb, ltb}
 use lib.ListN.{get_or, length, replicate}
-use Rattle.std.proofs.Common.{Ok, Err, Option}
+use Rattle.std.proofs.Common.{Ok, Err, Option, Some, None}
 use Rattle.std.specs.Option.{option_map_or}
 use Rattle.bools.specs.Pick.{pick}
 use Rattle.words.specs.Word.{bit_of}
@@ -384,10 +384,11 @@ watchdog_rows =
 
 -- a record's repeat, levels, address and word, or tag, as one number; 0 for none
 abbrev pub told : Found → ℕ
-told (Err stop) = 0
-told (Ok (Ticks n levels)) = (n * 2 ^ 56 + levels.inputs) * 2 ^ 16 + levels.gates
-told (Ok (Write a w)) = a * 2 ^ 16 + w
-told (Ok (Tag t)) = t
+told (Err cause) = 0
+told (Ok None) = 0
+told (Ok (Some (Ticks n levels))) = (n * 2 ^ 56 + levels.inputs) * 2 ^ 16 + levels.gates
+told (Ok (Some (Write a w))) = a * 2 ^ 16 + w
+told (Ok (Some (Tag t))) = t
 
 unfoldable pub trace_rows : List Row
 trace_rows =

@@ -14,20 +14,17 @@ use Rattle.reading.specs.Read.{read_of}
 use Rattle.device.specs.State.{Machine, machine}
 use Rattle.trace.specs.declared.Report.{Report}
 use Rattle.records.specs.declared.Stop.{Stop}
-use Rattle.records.specs.declared.Stop.TheVariants.{End, Spent, Memory, UnknownTag, WrongLength, Cut, NoRepeat}
+use Rattle.records.specs.declared.Stop.TheVariants.{End, Spent, Refused}
+use Rattle.records.specs.declared.Cause.TheVariants.{Memory}
 use Rattle.trace.specs.Run.{Run, machine_of, run_of}
-use Rattle.records.specs.Stops.{stop_number}
+use Rattle.records.specs.Stops.{cause_number}
 use Rattle.lent.specs.Lent.{bad_buffer}
 
 -- why a run stopped, as a number: 0 for END, 254 for SPENT, else the number of 01's table
 abbrev pub stop_code : Stop → ℕ
 stop_code End = 0
 stop_code Spent = 254
-stop_code Memory = stop_number Memory
-stop_code UnknownTag = stop_number UnknownTag
-stop_code WrongLength = stop_number WrongLength
-stop_code Cut = stop_number Cut
-stop_code NoRepeat = stop_number NoRepeat
+stop_code (Refused cause) = cause_number cause
 
 abbrev pub report_words : ℕ
 report_words = 5
@@ -80,7 +77,7 @@ is_fitting size report words = eqb (length report) report_words && eqb (length w
 
 -- "Every call on a crate is lent the memory, so 1 comes first"
 abbrev pub misfit : List ℕ → ℕ
-misfit memory = pick (is_whole memory) bad_buffer (stop_number Memory)
+misfit memory = pick (is_whole memory) bad_buffer (cause_number Memory)
 
 -- nothing is done where the report or the words do not fit
 abbrev pub export_by : ℕ → (Machine → List ℕ) → List ℕ → List ℕ → ℕ → List ℕ → List ℕ → Exported

@@ -11,15 +11,15 @@ ghost use Rattle.lent.specs.Lent.{bad_buffer};
 ghost use Rattle.lent.specs.Sums.{lent_sample, lent_start, sum_sample_of, sum_start_of};
 ghost use Rattle.patching.specs.Patching.{group_word_of, input_word_of};
 ghost use Rattle.mirvacula.specs.Exported.{exported, export_of, image_of, output_numbers, report_of, run_on, scan_export_of, stop_code};
-ghost use Rattle.records.specs.declared.Stop.TheVariants.{Memory};
-ghost use Rattle.records.specs.Stops.{stop_number};
+ghost use Rattle.records.specs.declared.Cause.TheVariants.{Memory};
+ghost use Rattle.records.specs.Stops.{cause_number};
 ghost use Rattle.trace.specs.Run.{progress_of, run as run_run};
 
 use captures::Refusal;
 use device::Crate;
 use interlocks::OutputScan;
 use lent::BAD_BUFFER;
-use records::Stop;
+use records::{Cause, Stop};
 use trace::Report;
 
 // 0 for END, 254 for SPENT, else the cause's number: the C interface needs a number.
@@ -27,8 +27,9 @@ fn stop_code(stop: Stop) -> u16
     ensures { result ≡ stop_code stop }
 {
     match stop {
+        Stop::End => 0,
         Stop::Spent => 254,
-        other => u16::from(other),
+        Stop::Refused(cause) => u16::from(cause),
     }
 }
 
@@ -67,12 +68,12 @@ fn put_scan(out: &mut [u16; 12], outputs: &[OutputScan; 6])
 // A report, an image or a scan of the wrong length; a memory of the wrong length comes first. Numbers, as the C interface needs them.
 #[tactic(auto, using(bools::proofs::Tests::tests))]
 fn misfit_code(words: usize) -> u16
-    ensures { result ≡ pick (eqb words 16384) bad_buffer (stop_number Memory) }
+    ensures { result ≡ pick (eqb words 16384) bad_buffer (cause_number Memory) }
 {
     if words == 16384 {
         BAD_BUFFER
     } else {
-        u16::from(Stop::Memory)
+        u16::from(Cause::Memory)
     }
 }
 

@@ -1,4 +1,4 @@
--- The parts of the lines one by one: a refusal's number, and the words of n registers, the first and the others.
+-- The words of n registers, the first and the others.
 use Prim.Native.Nat.{ℕ, suc, ◌+◌, ◌-◌, ◌<◌, ◌≤◌}
 use native.Mathlib.Omega.{arith}
 use mathlib.Core.List.{◌∷◌, ◌++◌}
@@ -6,21 +6,11 @@ use mathlib.Core.Path.{◌≡◌, refl, sym}
 use Rattle.std.specs.Result.{result_unwrap_or}
 use Rattle.reading.specs.Read.{read_of}
 use Rattle.device.specs.State.{Machine}
-use Rattle.records.specs.declared.Stop.{Stop}
-use Rattle.records.specs.declared.Stop.TheVariants.{End, Spent}
-use Rattle.records.specs.Stops.{stop_number}
 use Rattle.pages.specs.declared.page.Page.{Page}
 use Rattle.pages.specs.Page.{written, cut}
-use Rattle.pages.specs.Text.{decimal, hexadecimal}
+use Rattle.pages.specs.Text.{hexadecimal}
 use Rattle.pages.proofs.Pages.{same_page}
-use Rattle.printing.specs.Printed.{stop_text, words_from}
-
--- a stop that is neither END nor SPENT is told by its number
-pub refusal_text : (s : Stop) → (s ≡ End → ⊥) → (s ≡ Spent → ⊥) → stop_text s ≡ decimal (stop_number s)
-unfolding stop_text
-refusal_text End no_end no_spent = absurd (no_end refl)
-refusal_text Spent no_end no_spent = absurd (no_spent refl)
-refusal_text _ no_end no_spent = refl
+use Rattle.printing.specs.Printed.{words_from}
 
 -- the words up to an address: one more, and none
 module _ (m : Machine) (a end : ℕ) where

@@ -9,7 +9,7 @@ use Rattle.bools.proofs.Tests.{both}
 use Rattle.device.specs.State.{Machine}
 use Rattle.trace.specs.declared.Report.{Report}
 use Rattle.records.specs.declared.Stop.{Stop}
-use Rattle.records.specs.declared.Stop.TheVariants.{End, Spent}
+use Rattle.records.specs.declared.Stop.TheVariants.{End, Spent, Refused}
 use Rattle.pages.specs.Page.{cut}
 use Rattle.pages.specs.Text.{decimal_in, decimal, hexadecimal}
 use Rattle.pages.proofs.Pages.{fits}
@@ -35,7 +35,7 @@ stop_length : (s : Stop) → length (stop_text s) ≤ 20
 unfolding stop_text
 stop_length End = omega arith
 stop_length Spent = omega arith
-stop_length _ = decimal_length _
+stop_length (Refused cause) = decimal_length _
 
 report_length : (r : Report) → length (report_line r) ≤ 137
 unfolding report_line

@@ -7,15 +7,15 @@ use Rattle.reading.specs.Read.{read_of}
 use Rattle.device.specs.State.{Machine}
 use Rattle.trace.specs.declared.Report.{Report}
 use Rattle.records.specs.declared.Stop.{Stop}
-use Rattle.records.specs.declared.Stop.TheVariants.{End, Spent}
+use Rattle.records.specs.declared.Stop.TheVariants.{End, Spent, Refused}
 use Rattle.trace.specs.Run.{Run, machine_of, run_of}
-use Rattle.records.specs.Stops.{stop_number}
+use Rattle.records.specs.Stops.{cause_number}
 
 -- "STOP is END, SPENT or 7 to 10"
 unfoldable pub stop_text : Stop → List ℕ
 stop_text End = codes "END"
 stop_text Spent = codes "SPENT"
-stop_text refusal = decimal (stop_number refusal)
+stop_text (Refused cause) = decimal (cause_number cause)
 
 unfoldable pub report_line : Report → List ℕ
 report_line r =

@@ -8,14 +8,14 @@ use records::Stop;
 use trace::Report;
 
 // END, SPENT or the number of a refusal.
-#[tactic(auto, using(crate::proofs::Places::refusal_text), unfolding(crate::specs::Printed::stop_text))]
+#[tactic(auto, unfolding(crate::specs::Printed::stop_text))]
 fn put_stop(page: Page, stop: Stop) -> Page
     ensures { written result ≡ cut (written page ++ stop_text stop) }
 {
     match stop {
         Stop::End => page.put_text(b"END"),
         Stop::Spent => page.put_text(b"SPENT"),
-        refusal => page.put_decimal(u16::from(refusal).into()),
+        Stop::Refused(cause) => page.put_decimal(u16::from(cause).into()),
     }
 }
 

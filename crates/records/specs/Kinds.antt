@@ -1,7 +1,9 @@
 -- Document 01, "Trace and printing program": the kinds of records.
-use Rattle.std.specs.Prelude.{ℕ, List, Err, ltb, length}
+use Rattle.std.specs.Prelude.{ℕ, List, Some, Result, Ok, Err, ltb, length}
 use Rattle.bools.specs.Pick.{pick}
-use Rattle.records.specs.declared.Stop.TheVariants.{Cut}
+use Rattle.records.specs.declared.Cause.{Cause}
+use Rattle.records.specs.declared.Cause.TheVariants.{Cut}
+use Rattle.records.specs.declared.Record.{Record}
 use Rattle.records.specs.declared.kind.Kind.{Kind}
 use Rattle.records.specs.declared.kind.Kind.TheVariants.{Ticks, Write, Tag}
 use Rattle.records.specs.Records.{Found, payload_at, payload_bytes}
@@ -11,6 +13,11 @@ abbrev pub tag_of : Kind → ℕ
 tag_of Ticks = 1
 tag_of Write = 2
 tag_of Tag = 3
+
+-- a record that is there
+abbrev pub found : Result Record Cause → Found
+found (Ok x) = Ok (Some x)
+found (Err cause) = Err cause
 
 -- a payload that may be cut
 abbrev pub read_of : Kind → List ℕ → Found

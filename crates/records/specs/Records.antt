@@ -1,11 +1,11 @@
 -- Document 01, "Trace and printing program": the records of a trace.
-use Rattle.std.specs.Prelude.{ℕ, zero, suc, ◌+◌, ◌-◌, ◌*◌, Bool, ◌&&◌, List, Result, Ok, Err, eqb, leb, ltb, get_or, length}
+use Rattle.std.specs.Prelude.{ℕ, zero, suc, ◌+◌, ◌-◌, ◌*◌, Bool, ◌&&◌, List, Option, Some, None, Result, Ok, Err, eqb, leb, ltb, get_or, length}
 use Rattle.bools.specs.Pick.{pick}
 use Rattle.lines.specs.declared.levels.Levels.{Levels}
 use Rattle.records.specs.declared.Record.{Record}
 use Rattle.records.specs.declared.Record.TheVariants.{Ticks, Write, Tag}
-use Rattle.records.specs.declared.Stop.{Stop}
-use Rattle.records.specs.declared.Stop.TheVariants.{End, UnknownTag, WrongLength, Cut, NoRepeat}
+use Rattle.records.specs.declared.Cause.{Cause}
+use Rattle.records.specs.declared.Cause.TheVariants.{UnknownTag, WrongLength, Cut, NoRepeat}
 
 -- the number of n bytes from a place on, "high byte first"
 unfoldable pub number_at : List ℕ → ℕ → ℕ → ℕ
@@ -41,20 +41,20 @@ tick_bytes width = width + (input_bytes + gate_bytes)
 unfoldable pub levels_at : List ℕ → ℕ → Levels
 levels_at t at = record { inputs = number_at t at input_bytes; gates = number_at t (at + input_bytes) gate_bytes }
 
--- what stands at an offset: a record, or why a run stops before it
+-- what stands at an offset: a record, none at the end of the trace, or the cause that stops a run before it
 abbrev pub Found : Type 0
-Found = Result Record Stop
+Found = Result (Option Record) Cause
 
 -- cause 10: "repeat 0"
 unfoldable pub ticks_at : ℕ → List ℕ → ℕ → Found
 ticks_at width t at =
-    pick (eqb (number_at t at width) 0) (Err NoRepeat) (Ok (Ticks (number_at t at width) (levels_at t (at + width))))
+    pick (eqb (number_at t at width) 0) (Err NoRepeat) (Ok (Some (Ticks (number_at t at width) (levels_at t (at + width)))))
 
 -- "0x02, 4 bytes: address, word. 0x03, 4 bytes: an event tag."
 unfoldable pub payload_at : ℕ → List ℕ → ℕ → Found
 payload_at tag t at =
     pick (eqb tag 1) (ticks_at repeat_bytes t at)
-    (pick (eqb tag 2) (Ok (Write (number_at t at 2) (number_at t (at + 2) 2))) (Ok (Tag (number_at t at 4))))
+    (pick (eqb tag 2) (Ok (Some (Write (number_at t at 2) (number_at t (at + 2) 2)))) (Ok (Some (Tag (number_at t at 4)))))
 
 abbrev pub is_known : ℕ → Bool
 is_known tag = leb 1 tag && leb tag 3
@@ -62,11 +62,17 @@ is_known tag = leb 1 tag && leb tag 3
 abbrev pub payload_bytes : ℕ → ℕ
 payload_bytes tag = pick (eqb tag 1) (tick_bytes repeat_bytes) 4
 
+-- what a record takes in a trace
+abbrev pub bytes_taken : Record → ℕ
+bytes_taken (Ticks n levels) = header_bytes + payload_bytes 1
+bytes_taken (Write a w) = header_bytes + payload_bytes 2
+bytes_taken (Tag e) = header_bytes + payload_bytes 3
+
 -- "In a record: header cut, 7, 8, payload cut, 10"
 unfoldable pub record_at : List ℕ → ℕ → Found
 record_at t at =
     let left : ℕ = length t - at in
-    pick (eqb left 0) (Err End)
+    pick (eqb left 0) (Ok None)
     (pick (ltb left header_bytes) (Err Cut)
     (pick (is_known (tag_at t at))
     (pick (eqb (length_at t at) (payload_bytes (tag_at t at)))

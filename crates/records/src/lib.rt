@@ -2,19 +2,30 @@
 #![tactic(auto)]
 
 ghost use Rattle.std.specs.Prelude.{◌≡◌};
-ghost use Rattle.records.specs.Stops.{stop_number};
+ghost use Rattle.records.specs.Records.{bytes_taken};
+ghost use Rattle.records.specs.Stops.{cause_number, stop_number};
+ghost use Rattle.records.specs.declared.Stop.TheVariants.{Refused};
 
 mod kind;
 mod records;
 
+use kind::Kind;
 use lines::Levels;
-pub use records::{next_at, record_at};
+pub use records::record_at;
 
-// Why a run ends. Of the refusals specs/Stops.antt has the numbers.
+// Why a run ends.
 #[derive(Clone, Copy, PartialEq, Eq)]
 pub enum Stop {
+    // at the end of the trace
     End,
+    // before a tick record with more ticks than are left
     Spent,
+    Refused(Cause),
+}
+
+// The causes that stop a run: specs/Stops.antt has their numbers.
+#[derive(Clone, Copy, PartialEq, Eq)]
+pub enum Cause {
     Memory,
     UnknownTag,
     WrongLength,
@@ -22,19 +33,37 @@ pub enum Stop {
     NoRepeat,
 }
 
-// The number of the table of causes, 0 for END and SPENT, which are no refusals.
+impl From<Cause> for Stop {
+    ghost from_gives = { λ cause stop. stop ≡ Refused cause };
+
+    fn from(cause: Cause) -> Self {
+        Self::Refused(cause)
+    }
+}
+
+// The number of the table of causes.
+impl From<Cause> for u16 {
+    ghost from_gives = { λ cause number. number ≡ cause_number cause };
+
+    fn from(cause: Cause) -> u16 {
+        match cause {
+            Cause::Memory => 1,
+            Cause::UnknownTag => 7,
+            Cause::WrongLength => 8,
+            Cause::Cut => 9,
+            Cause::NoRepeat => 10,
+        }
+    }
+}
+
+// The cause's number, 0 for END and SPENT, which are no refusals.
 impl From<Stop> for u16 {
     ghost from_gives = { λ stop number. number ≡ stop_number stop };
 
     fn from(stop: Stop) -> u16 {
         match stop {
-            Stop::End => 0,
-            Stop::Spent => 0,
-            Stop::Memory => 1,
-            Stop::UnknownTag => 7,
-            Stop::WrongLength => 8,
-            Stop::Cut => 9,
-            Stop::NoRepeat => 10,
+            Stop::End | Stop::Spent => 0,
+            Stop::Refused(cause) => u16::from(cause),
         }
     }
 }
@@ -42,10 +71,21 @@ impl From<Stop> for u16 {
 // A record of a trace.
 #[derive(Clone, Copy)]
 pub enum Record {
-    // a repeat, and the levels
-    Ticks(u64, Levels),
-    // an address and a word
-    Write(u16, u16),
-    // an event tag
-    Tag(u32),
+    Ticks { repeat: u64, levels: Levels },
+    Write { address: u16, word: u16 },
+    Tag { tag: u32 },
+}
+
+impl Record {
+    // What it takes in a trace: a header of three bytes, and the payload.
+    pub fn bytes(self) -> usize
+        ensures { result ≡ bytes_taken self }
+    {
+        let kind = match self {
+            Record::Ticks { .. } => Kind::Ticks,
+            Record::Write { .. } => Kind::Write,
+            Record::Tag { .. } => Kind::Tag,
+        };
+        3 + usize::from(kind.payload_bytes())
+    }
 }

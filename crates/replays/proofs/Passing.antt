@@ -6,7 +6,7 @@ use mathlib.Core.Bool.{true, false}
 use mathlib.Core.List.{List, [], ◌∷◌, ◌++◌, map, map-append, append_assoc, append-nil}
 use mathlib.Core.Path.{◌≡◌, refl, sym, ap, subst, ◌∙◌}
 use lib.ListN.{length, replicate, length-append, length-replicate}
-use Rattle.std.proofs.Common.{Err}
+use Rattle.std.proofs.Common.{None, Ok}
 use Rattle.lists.proofs.Tables.{tabulate_fill}
 use Rattle.loader.specs.Memory.{is_whole}
 use Rattle.device.specs.State.{Machine}
@@ -81,7 +81,7 @@ module _ (budget : ℕ) where
   unfolding once_of by_record ticks_in
   once_tick t q r e good h = grind arith
 
-  once_end : (t : List ℕ) (q : Run) → record_at t (place q) ≡ Err End → once_of t budget q ≡ stops_by End q
+  once_end : (t : List ℕ) (q : Run) → record_at t (place q) ≡ Ok None → once_of t budget q ≡ stops_by End q
   unfolding once_of by_record
   once_end t q e = rw e
 
@@ -95,7 +95,7 @@ module _ (budget : ℕ) where
   run_from_lem [] good_none (suc fuel) p q g at h f =
       let t : List ℕ = p ++ [] in
       let l : length t ≡ length p = ap length (append-nil p) in
-      let e : record_at t (place q) ≡ Err End = rw (at, append-nil) (end_read p) in
+      let e : record_at t (place q) ≡ Ok None = rw (at, append-nil) (end_read p) in
       turn t fuel q (stops_by End q) g (once_end t q e) ∙ halted_stays t budget fuel (stops_by End q) refl ∙ ended_none t q (at ∙ sym l)
   run_from_lem (r ∷ rs) (good_more narrow level good) (suc fuel) p q g at h f =
       let t : List ℕ = p ++ (record_bytes r ++ written rs) in

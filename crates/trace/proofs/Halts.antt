@@ -7,7 +7,7 @@ use mathlib.Core.List.{List}
 use mathlib.Core.Path.{◌≡◌, refl, sym, ap, subst, ◌∙◌}
 use lib.Dec.{ltb}
 use lib.ListN.{length}
-use Rattle.std.proofs.Common.{Ok, Err}
+use Rattle.std.proofs.Common.{Some, None, Ok, Err}
 use Rattle.bools.proofs.Tests.{cases, pick_elim}
 use Rattle.loader.specs.Memory.{is_whole}
 use Rattle.registers.specs.Calls.{Call, tick, write, tag}
@@ -16,7 +16,7 @@ use Rattle.lines.specs.declared.levels.Levels.{Levels}
 use Rattle.lines.specs.Lines.{bad_levels}
 use Rattle.records.specs.declared.Record.TheVariants.{Ticks, Write, Tag}
 use Rattle.records.specs.declared.Stop.{Stop}
-use Rattle.records.specs.declared.Stop.TheVariants.{Spent}
+use Rattle.records.specs.declared.Stop.TheVariants.{End, Spent, Refused}
 use Rattle.records.specs.Records.{Found, next_at, record_at}
 use Rattle.trace.specs.Run.{Run, begun, by_record, call_in, once_of, one, passes, repeated, report_of, run_from, run_of, stops_by, ticks_in}
 use Rattle.trace.specs.Sound.{Sound}
@@ -47,10 +47,11 @@ module _ (t : List ℕ) (budget : ℕ) where
 
   record_further : (r : Run) (x : Found) → Within t (place r) x → Further t r (by_record t budget x r)
   unfolding by_record call_in
-  record_further r (Err stop) w = stop_further r stop
-  record_further r (Ok (Ticks n levels)) w = ticks_further r w n levels.inputs levels.gates
-  record_further r (Ok (Write a v)) w = pass_further r w (one (write a v)) 0 _
-  record_further r (Ok (Tag e)) w = pass_further r w (one (tag e)) 0 _
+  record_further r (Err cause) w = stop_further r (Refused cause)
+  record_further r (Ok None) w = stop_further r End
+  record_further r (Ok (Some (Ticks n levels))) w = ticks_further r w.1 n levels.inputs levels.gates
+  record_further r (Ok (Some (Write a v))) w = pass_further r w.1 (one (write a v)) 0 _
+  record_further r (Ok (Some (Tag e))) w = pass_further r w.1 (one (tag e)) 0 _
 
   once_further : (r : Run) → Further t r (once_of t budget r)
   unfolding once_of
@@ -149,10 +150,10 @@ module _ (t : List ℕ) (budget : ℕ) where
   unfolding ticks_in
   spent_again r n inputs gates good long = rw (good, long)
 
-  ticks_again : (r : Run) (n : ℕ) (levels : Levels) → Again (Ok (Ticks n levels)) r (ticks_in t budget r n levels.inputs levels.gates)
+  ticks_again : (r : Run) (n : ℕ) (levels : Levels) → Again (Ok (Some (Ticks n levels))) r (ticks_in t budget r n levels.inputs levels.gates)
   unfolding ticks_in by_record
   ticks_again r n levels =
-      let x : Found = Ok (Ticks n levels) in
+      let x : Found = Ok (Some (Ticks n levels)) in
       pick_elim (Again x r) (bad_levels levels.inputs levels.gates)
       (λ e. pass_again x r (one (tick levels.inputs levels.gates)) 0 true)
       (λ good.
@@ -162,10 +163,11 @@ module _ (t : List ℕ) (budget : ℕ) where
 
   record_again : (x : Found) (r : Run) → Again x r (by_record t budget x r)
   unfolding by_record call_in
-  record_again (Err stop) r = record { again = λ e. (refl, refl) }
-  record_again (Ok (Ticks n levels)) r = ticks_again r n levels
-  record_again (Ok (Write a v)) r = pass_again (Ok (Write a v)) r (one (write a v)) 0 _
-  record_again (Ok (Tag e)) r = pass_again (Ok (Tag e)) r (one (tag e)) 0 _
+  record_again (Err cause) r = record { again = λ e. (refl, refl) }
+  record_again (Ok None) r = record { again = λ e. (refl, refl) }
+  record_again (Ok (Some (Ticks n levels))) r = ticks_again r n levels
+  record_again (Ok (Some (Write a v))) r = pass_again (Ok (Some (Write a v))) r (one (write a v)) 0 _
+  record_again (Ok (Some (Tag e))) r = pass_again (Ok (Some (Tag e))) r (one (tag e)) 0 _
 
   once_again : (r : Run) → (once_of t budget r).progress.going ≡ false → once_of t budget (once_of t budget r) ≡ once_of t budget r
   unfolding once_of

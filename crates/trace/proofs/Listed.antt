@@ -9,7 +9,7 @@ use mathlib.Core.Path.{◌≡◌, refl, sym, ap, ◌∙◌}
 use borrow.Author.Tests.{eqb-true}
 use lib.Dec.{ltb}
 use lib.ListN.{length}
-use Rattle.std.proofs.Common.{Ok, Err}
+use Rattle.std.proofs.Common.{Some, None, Ok, Err}
 use Rattle.bools.specs.Pick.{pick}
 use Rattle.bools.proofs.Tests.{cases}
 use Rattle.loader.specs.Memory.{is_whole}
@@ -20,7 +20,8 @@ use Rattle.lines.specs.Lines.{bad_levels}
 use Rattle.registers.proofs.Lists.{from_append, full_from, refusals_append, refusals_repeated, ticks_append, ticks_repeated}
 use Rattle.records.specs.declared.Record.TheVariants.{Ticks, Write, Tag}
 use Rattle.records.specs.declared.Stop.{Stop}
-use Rattle.records.specs.declared.Stop.TheVariants.{Spent, Memory}
+use Rattle.records.specs.declared.Stop.TheVariants.{End, Spent, Refused}
+use Rattle.records.specs.declared.Cause.TheVariants.{Memory}
 use Rattle.trace.specs.Passed.{calls_in, calls_of, passed_from, passed_in}
 use Rattle.records.specs.Records.{Found, record_at}
 use Rattle.trace.specs.Run.{Run, begun, by_record, call_in, machine_of, once_of, passes, repeated, run_from, run_of, stops_by, ticks_in}
@@ -76,7 +77,7 @@ module _ (t : List ℕ) (budget : ℕ) where
   unfolding answer call_answer
   tick_refused inputs gates m bad = cases (is_whole m.memory) (λ e. rw (e, bad)) (λ e. rw e)
 
-  ticks_turn : (r : Run) → Whole r → (n : ℕ) (levels : Levels) → Turn r (ticks_in t budget r n levels.inputs levels.gates) (calls_of (Ok (Ticks n levels)))
+  ticks_turn : (r : Run) → Whole r → (n : ℕ) (levels : Levels) → Turn r (ticks_in t budget r n levels.inputs levels.gates) (calls_of (Ok (Some (Ticks n levels))))
   unfolding ticks_in calls_of passes repeated
   ticks_turn r h n levels =
       let inputs = levels.inputs in
@@ -105,10 +106,11 @@ module _ (t : List ℕ) (budget : ℕ) where
 
   record_turn : (r : Run) → Whole r → (x : Found) → Turn r (by_record t budget x r) (calls_of x)
   unfolding by_record calls_of
-  record_turn r h (Err stop) = stop_turn r _ stop
-  record_turn r h (Ok (Ticks n levels)) = ticks_turn r h n levels
-  record_turn r h (Ok (Write a w)) = call_turn r (write a w) (unfold accepted_ticks in refl)
-  record_turn r h (Ok (Tag e)) = call_turn r (tag e) (unfold accepted_ticks in refl)
+  record_turn r h (Err cause) = stop_turn r _ (Refused cause)
+  record_turn r h (Ok None) = stop_turn r _ End
+  record_turn r h (Ok (Some (Ticks n levels))) = ticks_turn r h n levels
+  record_turn r h (Ok (Some (Write a w))) = call_turn r (write a w) (unfold accepted_ticks in refl)
+  record_turn r h (Ok (Some (Tag e))) = call_turn r (tag e) (unfold accepted_ticks in refl)
 
   whole_after : (r q : Run) {n : ℕ} {calls : List Call} → Whole r → Passes r q n calls → Whole q
   whole_after r q {n} {calls} h p = ap (λ (m : Machine). length m.memory) p.state ∙ full_from (machine_of r) h calls
@@ -166,4 +168,4 @@ module _ (t : List ℕ) (budget : ℕ) where
   run_is_list m =
       cases (is_whole m.memory)
       (λ e. rw e (along (length t + 1) (begun m) (eqb-true _ _ e) refl))
-      (λ e. rw e (passes_stop (begun m) Memory))
+      (λ e. rw e (passes_stop (begun m) (Refused Memory)))

@@ -1,17 +1,18 @@
 -- Laws of records and of one step of a run.
 use Prim.{Unit, tt}
-use Prim.Native.Nat.{ℕ, zero, suc, ◌+◌, ◌-◌, ◌^◌, ◌<◌, ◌≤◌}
+use Prim.Native.Nat.{ℕ, zero, suc, ◌+◌, ◌-◌, ◌<◌, ◌≤◌}
 use native.Mathlib.Nat.{not-suc-le-zero}
 use native.Mathlib.Omega.{arith}
 use mathlib.Core.Bool.{Bool, true, false, not}
 use mathlib.Core.List.{List}
 use mathlib.Core.Path.{◌≡◌, refl, sym, ap, subst, ◌∙◌}
-use borrow.Author.Tests.{eq-eqb, eqb-false, ltb-false}
+use borrow.Author.Tests.{eq-eqb, eqb-true, eqb-false, ltb-false}
 use lib.Dec.{eqb, ltb, lit≤}
 use lib.ListN.{length}
+use mir.Val.{bool_byte}
 use Rattle.words.specs.Word.{bit_of}
 use Rattle.std.specs.Result.{is_err}
-use Rattle.std.proofs.Common.{Ok, Err}
+use Rattle.std.proofs.Common.{Some, None, Ok, Err}
 use Rattle.bools.proofs.Tests.{cases, pick_elim}
 use Rattle.lists.specs.Table.{table_from, tabulate}
 use Rattle.loader.specs.Memory.{is_whole}
@@ -20,18 +21,25 @@ use Rattle.device.specs.declared.state.Crate.{Crate}
 use Rattle.device.specs.Answer.{Answer, is_done}
 use Rattle.device.specs.State.{Machine, machine}
 use Rattle.lines.specs.Lines.{bad_levels}
+use Rattle.records.specs.declared.Record.{Record}
 use Rattle.records.specs.declared.Record.TheVariants.{Ticks, Write, Tag}
 use Rattle.trace.specs.declared.Report.{Report}
-use Rattle.records.specs.Records.{Found, header_bytes, is_known, length_at, next_at, number_at, payload_at, payload_bytes, record_at, repeat_bytes, tag_at, ticks_at}
+use Rattle.trace.specs.declared.running.Passed.{Passed}
+use Rattle.records.specs.Records.{Found, bytes_taken, header_bytes, is_known, length_at, next_at, number_at, payload_at, payload_bytes, record_at, repeat_bytes, tag_at, ticks_at}
 use Rattle.records.specs.declared.Stop.{Stop}
-use Rattle.records.specs.declared.Stop.TheVariants.{Spent}
-use Rattle.trace.specs.Run.{Run, begun, by_record, call_in, machine_of, once_of, one, passed, passes, progress_of, repeated, run, run_from, run_of, run_on, stopped, stops_by, ticks_in}
-use Rattle.trace.specs.Sound.{Room, Sound}
+use Rattle.records.specs.declared.Stop.TheVariants.{End, Spent, Refused}
+use Rattle.trace.specs.Run.{Run, begun, by_record, call_in, machine_of, once_of, one, passed, passes, progress_of, repeated, report_of, run, run_from, run_of, run_on, stopped, stops_by, ticks_in}
+use Rattle.trace.specs.Sound.{Sound}
+use Rattle.trace.specs.Turns.{made}
 
 -- a refusal counts once at most
 pub once_at_most : (b : Bool) → bit_of b ≤ 1
 once_at_most true = lit≤ tt
 once_at_most false = lit≤ tt
+
+byte_is : (b : Bool) → bool_byte b ≡ bit_of b
+byte_is true = refl
+byte_is false = refl
 
 -- ---- the same call again and again
 
@@ -70,24 +78,30 @@ call_made t r x e h =
 
 -- a record that a run may pass ends within the trace
 abbrev pub Within : List ℕ → ℕ → Found → Type 0
-Within t at (Err stop) = Unit {0}
-Within t at (Ok x) = next_at t at ≤ length t
+Within t at (Err cause) = Unit {0}
+Within t at (Ok None) = Unit {0}
+Within t at (Ok (Some x)) = (at + bytes_taken x ≡ next_at t at) × (next_at t at ≤ length t)
 
 -- a record of its own, so that the arguments of `pick_elim` are found
 pub record Whole (t : List ℕ) (at : ℕ) (x : Found) : Type 0 where
   pub fits : Within t at x
 
 module _ (t : List ℕ) (at : ℕ) where
-  ticks_whole : (width place : ℕ) → next_at t at ≤ length t → Whole t at (ticks_at width t place)
+  ticks_whole : (width place : ℕ) → at + (header_bytes + payload_bytes 1) ≡ next_at t at → next_at t at ≤ length t → Whole t at (ticks_at width t place)
   unfolding ticks_at
-  ticks_whole width place h =
-      pick_elim (Whole t at) (eqb (number_at t place width) 0) (λ e. record { fits = tt }) (λ e. record { fits = h })
+  ticks_whole width place s h =
+      pick_elim (Whole t at) (eqb (number_at t place width) 0) (λ e. record { fits = tt }) (λ e. record { fits = (s, h) })
 
-  payload_whole : (kind place : ℕ) → next_at t at ≤ length t → Whole t at (payload_at kind t place)
+  payload_whole : (kind place : ℕ) → at + (header_bytes + payload_bytes kind) ≡ next_at t at → next_at t at ≤ length t → Whole t at (payload_at kind t place)
   unfolding payload_at
-  payload_whole kind place h =
-      pick_elim (Whole t at) (eqb kind 1) (λ e. ticks_whole repeat_bytes place h)
-      (λ e. pick_elim (Whole t at) (eqb kind 2) (λ e. record { fits = h }) (λ e. record { fits = h }))
+  payload_whole kind place s h =
+      pick_elim (Whole t at) (eqb kind 1) (λ e. ticks_whole repeat_bytes place (rw e at s) h)
+      (λ e. pick_elim (Whole t at) (eqb kind 2) (λ f. record { fits = (rw e at s, h) }) (λ f. record { fits = (rw e at s, h) }))
+
+  -- what a record takes leads to the next
+  taken : eqb (length_at t at) (payload_bytes (tag_at t at)) ≡ true → at + (header_bytes + payload_bytes (tag_at t at)) ≡ next_at t at
+  unfolding next_at
+  taken e = omega (arith, eqb-true (length_at t at) (payload_bytes (tag_at t at)) e)
 
   behind : eqb (length t - at) 0 ≡ false → ltb (length t - at) (header_bytes + length_at t at) ≡ false → next_at t at ≤ length t
   unfolding next_at
@@ -99,24 +113,14 @@ module _ (t : List ℕ) (at : ℕ) where
       pick_elim (Whole t at) (eqb (length t - at) 0) (λ e. record { fits = tt }) (λ some.
       pick_elim (Whole t at) (ltb (length t - at) header_bytes) (λ e. record { fits = tt }) (λ e.
       pick_elim (Whole t at) (is_known (tag_at t at)) (λ e.
-      pick_elim (Whole t at) (eqb (length_at t at) (payload_bytes (tag_at t at))) (λ e.
+      pick_elim (Whole t at) (eqb (length_at t at) (payload_bytes (tag_at t at))) (λ size.
       pick_elim (Whole t at) (ltb (length t - at) (header_bytes + length_at t at)) (λ e. record { fits = tt })
-      (λ cut. payload_whole (tag_at t at) (at + header_bytes) (behind some cut)))
+      (λ cut. payload_whole (tag_at t at) (at + header_bytes) (taken size) (behind some cut)))
       (λ e. record { fits = tt }))
       (λ e. record { fits = tt })))
 
   pub whole_at : {x y : Found} → y ≡ record_at t at → y ≡ x → Within t at x
   whole_at e h = subst (Within t at) (sym e ∙ h) record_whole.fits
-
--- at a record that stands whole the numbers of a run have room
-pub room_at : {t : List ℕ} {budget : ℕ} (r : Report) → Sound t budget r → next_at t r.next ≤ length t → length t < 2 ^ 64 → budget < 2 ^ 64 → Room t r
-unfolding next_at
-room_at r s h l b = record {
-  place = h;
-  passes = omega (arith, s.passes);
-  refusals = omega (arith, s.passes, s.refusals);
-  spent = omega (arith, s.spent);
-}
 
 -- one record more keeps the numbers sound
 pub passed_sound : (t : List ℕ) (budget : ℕ) (r : Report) → Sound t budget r → next_at t r.next ≤ length t → (ticks : ℕ) (b : Bool) → r.ticks + ticks ≤ budget → Sound t budget (passed t r ticks b)
@@ -132,8 +136,8 @@ stopped_sound : (t : List ℕ) (budget : ℕ) (r : Report) → Sound t budget r 
 stopped_sound t budget r s stop = record { place = s.place; passes = s.passes; refusals = s.refusals; spent = s.spent }
 
 -- a record of its own, as `Whole`
-record Kept (t : List ℕ) (budget : ℕ) (r : Run) : Type 0 where
-  sound : Sound t budget r.progress.report
+pub record Kept (t : List ℕ) (budget : ℕ) (r : Run) : Type 0 where
+  pub sound : Sound t budget r.progress.report
 
 module _ (t : List ℕ) (budget : ℕ) (r : Run) (s : Sound t budget r.progress.report) where
   abbrev report : Report
@@ -153,16 +157,29 @@ module _ (t : List ℕ) (budget : ℕ) (r : Run) (s : Sound t budget r.progress.
       (λ e. pick_elim (Kept t budget) (ltb (budget - report.ticks) n) (λ e. stop_kept Spent)
       (λ e. pass_kept h (repeated n (tick inputs gates)) n false (omega (arith, s.spent, ltb-false (budget - report.ticks) n e))))
 
-  record_kept : (x : Found) → Within t report.next x → Kept t budget (by_record t budget x r)
+  pub record_kept : (x : Found) → Within t report.next x → Kept t budget (by_record t budget x r)
   unfolding by_record call_in
-  record_kept (Err stop) w = stop_kept stop
-  record_kept (Ok (Ticks n levels)) w = ticks_kept w n levels.inputs levels.gates
-  record_kept (Ok (Write a v)) w = pass_kept w (one (write a v)) 0 _ (omega (arith, s.spent))
-  record_kept (Ok (Tag e)) w = pass_kept w (one (tag e)) 0 _ (omega (arith, s.spent))
+  record_kept (Err cause) w = stop_kept (Refused cause)
+  record_kept (Ok None) w = stop_kept End
+  record_kept (Ok (Some (Ticks n levels))) w = ticks_kept w.1 n levels.inputs levels.gates
+  record_kept (Ok (Some (Write a v))) w = pass_kept w.1 (one (write a v)) 0 _ (omega (arith, s.spent))
+  record_kept (Ok (Some (Tag e))) w = pass_kept w.1 (one (tag e)) 0 _ (omega (arith, s.spent))
 
   pub once_sound : Sound t budget (once_of t budget r).progress.report
   unfolding once_of
   once_sound = (record_kept (record_at t report.next) (record_whole t report.next).fits).sound
+
+-- a record that is passed, as its bytes and a refusal are counted
+module _ (t : List ℕ) (r : Report) {x : Record} (known : record_at t r.next ≡ Ok (Some x)) where
+  pub counted : (p : Passed) {bytes bit : ℕ} → bytes ≡ bytes_taken x → bit ≡ bool_byte p.refused →
+      report_of r.stop (r.next + bytes) (r.ticks + p.ticks) (r.records + 1) (r.refused + bit) ≡ passed t r p.ticks p.refused
+  counted p e f = rw (e, f, byte_is p.refused, (whole_at t r.next refl known).0)
+
+  pub counted_sound : (budget : ℕ) (p : Passed) (s : Crate) (memory : List ℕ) {q : Crate} {left : List ℕ} → Sound t budget r →
+      run (made t r (Ok p) q) left ≡ by_record t budget (Ok (Some x)) (run (progress_of s r true) memory) → Sound t budget (passed t r p.ticks p.refused)
+  counted_sound budget p s memory sound e =
+      subst (λ (u : Run). Sound t budget u.progress.report) (sym e)
+      (record_kept t budget (run (progress_of s r true) memory) sound (Ok (Some x)) (whole_at t r.next refl known)).sound
 
 -- a run begins with a whole memory
 pub run_begins : (t : List ℕ) (budget : ℕ) (m : Machine) → length m.memory ≡ 16384 → run_from (length t + 1) t budget (begun m) ≡ run_of t budget m

@@ -1,5 +1,5 @@
 -- Document 01, "The one-counter sheet": "a trace run stands in it for the calls of the records it passes".
-use Rattle.std.specs.Prelude.{ℕ, zero, suc, ◌+◌, List, [], ◌∷◌, ◌++◌, Ok, Err, length}
+use Rattle.std.specs.Prelude.{ℕ, zero, suc, ◌+◌, List, [], ◌∷◌, ◌++◌, Some, None, Ok, Err, length}
 use Rattle.bools.specs.Pick.{pick}
 use Rattle.loader.specs.Memory.{is_whole}
 use Rattle.registers.specs.Calls.{Call, tick, write, tag}
@@ -11,11 +11,12 @@ use Rattle.trace.specs.Run.{Run, begun, once_of, one, repeated}
 
 -- the calls of a record: a repeat n is n ticks, a refused tick record one refused tick
 unfoldable pub calls_of : Found → List Call
-calls_of (Err stop) = []
-calls_of (Ok (Ticks n levels)) =
+calls_of (Err cause) = []
+calls_of (Ok None) = []
+calls_of (Ok (Some (Ticks n levels))) =
     pick (bad_levels levels.inputs levels.gates) (one (tick levels.inputs levels.gates)) (repeated n (tick levels.inputs levels.gates))
-calls_of (Ok (Write a w)) = one (write a w)
-calls_of (Ok (Tag e)) = one (tag e)
+calls_of (Ok (Some (Write a w))) = one (write a w)
+calls_of (Ok (Some (Tag e))) = one (tag e)
 
 unfoldable pub calls_in : List Found → List Call
 calls_in [] = []

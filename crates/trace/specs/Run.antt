@@ -1,5 +1,5 @@
 -- Document 01, "Trace and printing program": the run of a trace with a budget of ticks, and its report.
-use Rattle.std.specs.Prelude.{ℕ, zero, suc, ◌+◌, ◌-◌, Bool, true, false, List, [], ◌∷◌, Ok, Err, ltb, length}
+use Rattle.std.specs.Prelude.{ℕ, zero, suc, ◌+◌, ◌-◌, Bool, true, false, List, [], ◌∷◌, Some, None, Ok, Err, ltb, length}
 use Rattle.bools.specs.Pick.{pick}
 use Rattle.words.specs.Word.{bit_of}
 use Rattle.lists.specs.Table.{tabulate}
@@ -11,7 +11,8 @@ use Rattle.lines.specs.Lines.{bad_levels}
 use Rattle.records.specs.declared.Record.TheVariants.{Ticks, Write, Tag}
 use Rattle.trace.specs.declared.Report.{Report}
 use Rattle.records.specs.declared.Stop.{Stop}
-use Rattle.records.specs.declared.Stop.TheVariants.{End, Spent, Memory}
+use Rattle.records.specs.declared.Stop.TheVariants.{End, Spent, Refused}
+use Rattle.records.specs.declared.Cause.TheVariants.{Memory}
 use Rattle.records.specs.Records.{Found, next_at, record_at}
 
 -- "stop cause, offset of the next record, ticks, records passed (refused ones included), records refused"
@@ -72,10 +73,11 @@ unfoldable pub call_in : List ℕ → Run → Call → Run
 call_in t r x = passes t r (one x) 0 (is_refused (machine_of r) x)
 
 unfoldable pub by_record : List ℕ → ℕ → Found → Run → Run
-by_record t budget (Err stop) r = stops_by stop r
-by_record t budget (Ok (Ticks n levels)) r = ticks_in t budget r n levels.inputs levels.gates
-by_record t budget (Ok (Write a w)) r = call_in t r (write a w)
-by_record t budget (Ok (Tag e)) r = call_in t r (tag e)
+by_record t budget (Err cause) r = stops_by (Refused cause) r
+by_record t budget (Ok None) r = stops_by End r
+by_record t budget (Ok (Some (Ticks n levels))) r = ticks_in t budget r n levels.inputs levels.gates
+by_record t budget (Ok (Some (Write a w))) r = call_in t r (write a w)
+by_record t budget (Ok (Some (Tag e))) r = call_in t r (tag e)
 
 unfoldable pub once_of : List ℕ → ℕ → Run → Run
 once_of t budget r = by_record t budget (record_at t r.progress.report.next) r
@@ -92,4 +94,4 @@ begun m = run_on m (report_of End 0 0 0 0) true
 -- a record is longer than one byte, so the trace's length and one turn more are enough.
 -- "a run the number and zeros in the rest of its report" where the memory is not 16,384 words
 unfoldable pub run_of : List ℕ → ℕ → Machine → Run
-run_of t budget m = pick (is_whole m.memory) (run_from (length t + 1) t budget (begun m)) (stops_by Memory (begun m))
+run_of t budget m = pick (is_whole m.memory) (run_from (length t + 1) t budget (begun m)) (stops_by (Refused Memory) (begun m))

@@ -1,20 +1,19 @@
 // The run of a trace: record by record, with a budget of ticks.
-ghost use Rattle.std.specs.Prelude.{true, false, ◌≡◌, ◌+◌, ◌-◌, ◌^◌, ◌<◌, ◌≤◌};
+ghost use Rattle.std.specs.Prelude.{true, false, ◌≡◌, Some, Ok, ◌≤◌};
 ghost use Rattle.records.specs.declared.Stop.TheVariants.{End};
 ghost use Rattle.registers.specs.Calls.{from};
 ghost use Rattle.registers.specs.Calls.{tick as call_tick};
 ghost use Rattle.device.specs.State.{machine};
 ghost use Rattle.lines.specs.Lines.{bad_levels};
 ghost use Rattle.trace.specs.Leaping.{SameEnd};
-ghost use Rattle.trace.specs.Run.{once_of, passed, progress_of, repeated, report_of, run_of, ticks_in};
+ghost use Rattle.trace.specs.Run.{by_record, once_of, progress_of, repeated, report_of, run_of, ticks_in};
 ghost use Rattle.trace.specs.Run.{run as run_run};
-ghost use Rattle.trace.specs.Sound.{Room, Sound};
-ghost use Rattle.trace.specs.Turns.{SameTrace, reported, so_far, turned};
+ghost use Rattle.trace.specs.Sound.{Sound};
 
 use crate::Report;
 use device::Crate;
 use lines::Levels;
-use records::{Record, Stop};
+use records::{Cause, Record, Stop};
 
 // A leap costs about two ticks, so it is tried where at least twice that are left.
 const WORTH: u64 = 4;
@@ -51,95 +50,108 @@ fn tick_on(state: &mut Crate, mem: &[u16; 16384], n: u64, levels: Levels)
     }
 }
 
-// A run on its way: the trace, the budget of ticks, and the numbers of its report so far.
+// A passed record: the ticks that it used, and whether its call was refused.
+#[derive(Clone, Copy)]
+struct Passed {
+    ticks: u64,
+    refused: bool,
+}
+
+// A run on its way: the trace, the budget of ticks, and the report so far, in which END stands until something else stops the run.
 #[derive(Drop)]
 struct Running<'a> {
     trace: &'a [u8],
     budget: u64,
-    next: usize,
-    ticks: u64,
-    records: usize,
-    refused: usize,
+    report: Report,
+    ghost sound: { Sound trace.now budget report },
 }
 
 impl<'a> Running<'a> {
+    ghost use Rattle.trace.specs.Turns.{SameTrace, made, turned};
+
     fn new(trace: &'a [u8], budget: u64) -> Running<'a>
-        ensures { (so_far result ≡ report_of End 0 0 0 0) × (result.trace.now ≡ trace.now) × (result.budget ≡ budget) }
+        ensures { (result.report ≡ report_of End 0 0 0 0) × (result.trace.now ≡ trace.now) × (result.budget ≡ budget) }
     {
         Running {
             trace,
             budget,
-            next: 0,
-            ticks: 0,
-            records: 0,
-            refused: 0,
+            report: Report {
+                stop: Stop::End,
+                next: 0,
+                ticks: 0,
+                records: 0,
+                refused: 0,
+            },
         }
-    }
-
-    // The report of a run that stops here.
-    fn report(&self, stop: Stop) -> Report
-        ensures { result ≡ reported self.now stop }
-    {
-        Report {
-            stop,
-            next: self.next,
-            ticks: self.ticks,
-            records: self.records,
-            refused: self.refused,
-        }
-    }
-
-    // The record at the next offset is passed.
-    fn pass(&mut self, ticks: u64, refused: bool)
-        requires { Room self.old.trace.now (so_far self.old) × (self.old.ticks + ticks < 2 ^ 64) }
-        ensures { (so_far self.new ≡ passed self.old.trace.now (so_far self.old) ticks refused) × SameTrace self.old self.new }
-    {
-        self.next = records::next_at(self.trace, self.next);
-        self.ticks += ticks;
-        self.records += 1;
-        self.refused += usize::from(refused);
     }
 
     // A tick record: refused by its levels, or too long for the ticks left, or so many ticks.
     #[tactic(auto, unfolding(crate::specs::Run::ticks_in, crate::specs::Run::passes, registers::specs::Calls::from), using(crate::proofs::Steps::tick_refused, bools::proofs::Tests::tests))]
     fn run_ticks(
-        &mut self,
+        &self,
         state: &mut Crate,
         mem: &[u16; 16384],
-        n: u64,
+        repeat: u64,
         levels: Levels,
-    ) -> Result<(), Stop>
-        requires { Room self.old.trace.now (so_far self.old) × (self.old.ticks ≤ self.old.budget) }
-        ensures { (run_run (turned result state.new (so_far self.new)) mem.now ≡ ticks_in self.old.trace.now self.old.budget (run_run (progress_of state.old (so_far self.old) true) mem.now) n levels.inputs levels.gates)
-            × SameTrace self.old self.new }
+    ) -> Result<Passed, Stop>
+        ensures { run_run (made self.now.trace.now self.now.report result state.new) mem.now ≡ ticks_in self.now.trace.now self.now.budget (run_run (progress_of state.old self.now.report true) mem.now) repeat levels.inputs levels.gates }
     {
         // levels come before the budget: a record that they refuse is passed
         if levels.are_bad() {
-            self.pass(0, true);
-            return Ok(());
+            return Ok(Passed {
+                ticks: 0,
+                refused: true,
+            });
         }
-        if self.budget - self.ticks < n {
+        if self.budget - self.report.ticks < repeat {
             return Err(Stop::Spent);
         }
-        tick_on(state, mem, n, levels);
-        self.pass(n, false);
-        Ok(())
+        tick_on(state, mem, repeat, levels);
+        Ok(Passed {
+            ticks: repeat,
+            refused: false,
+        })
     }
 
-    // One record: what it does, or why the run stops before it.
-    #[tactic(auto, unfolding(crate::specs::Run::once_of, crate::specs::Run::by_record))]
-    fn once(&mut self, state: &mut Crate, mem: &mut [u16; 16384]) -> Result<(), Stop>
-        requires { Sound self.old.trace.now self.old.budget (so_far self.old) × (self.old.budget < 2 ^ 64) }
-        ensures { (run_run (turned result state.new (so_far self.new)) mem.new ≡ once_of self.old.trace.now self.old.budget (run_run (progress_of state.old (so_far self.old) true) mem.old))
-            × SameTrace self.old self.new }
+    // What a record does, or why the run stops before it.
+    #[tactic(auto, unfolding(crate::specs::Run::by_record), using(crate::proofs::Steps::call_made))]
+    fn run_record(
+        &self,
+        state: &mut Crate,
+        mem: &mut [u16; 16384],
+        record: Record,
+    ) -> Result<Passed, Stop>
+        ensures { run_run (made self.now.trace.now self.now.report result state.new) mem.new ≡ by_record self.now.trace.now self.now.budget (Ok (Some «record»)) (run_run (progress_of state.old self.now.report true) mem.old) }
     {
-        let answer = match records::record_at(self.trace, self.next)? {
-            Record::Ticks(n, levels) => return self.run_ticks(state, mem, n, levels),
-            Record::Write(address, word) => registers::write(state, mem, address, word),
-            Record::Tag(tag) => registers::tag(state, mem, tag),
+        let answer = match record {
+            Record::Ticks { repeat, levels } => return self.run_ticks(state, mem, repeat, levels),
+            Record::Write { address, word } => registers::write(state, mem, address, word),
+            Record::Tag { tag } => registers::tag(state, mem, tag),
         };
         // a refusal counts once, and the run goes on
-        self.pass(0, answer.is_err());
+        Ok(Passed {
+            ticks: 0,
+            refused: answer.is_err(),
+        })
+    }
+
+    // One record: it is passed, or the run stops before it.
+    #[tactic(auto, unfolding(crate::specs::Run::once_of, crate::specs::Run::by_record))]
+    fn once(&mut self, state: &mut Crate, mem: &mut [u16; 16384]) -> Result<(), Stop>
+        ensures { (run_run (turned result state.new self.new.report) mem.new ≡ once_of self.old.trace.now self.old.budget (run_run (progress_of state.old self.old.report true) mem.old))
+            × SameTrace self.old self.new }
+    {
+        let Some(record) = records::record_at(self.trace, self.report.next)? else {
+            return Err(Stop::End);
+        };
+        let passed = self.run_record(state, mem, record)?;
+        self.report = Report {
+            next: self.report.next + record.bytes(),
+            ticks: self.report.ticks + passed.ticks,
+            records: self.report.records + 1,
+            refused: self.report.refused + usize::from(passed.refused),
+            ..self.report
+        };
         Ok(())
     }
 }
@@ -150,12 +162,18 @@ pub fn run(state: &mut Crate, mem: &mut [u16], trace: &[u8], budget: u64) -> Rep
 {
     let mut running = Running::new(trace, budget);
     let Some(mem) = mem.as_mut_array() else {
-        return running.report(Stop::Memory);
+        return Report {
+            stop: Stop::Refused(Cause::Memory),
+            ..running.report
+        };
     };
     // each record moves the offset on, so a run stops at the end of the trace at the latest
     loop {
         if let Err(stop) = running.once(state, mem) {
-            return running.report(stop);
+            return Report {
+                stop,
+                ..running.report
+            };
         }
     }
 }

@@ -28,9 +28,9 @@ use Rattle.sheet.specs.Requests.{Stand, finished, stand_after, waits, works}
 use Rattle.sheet.specs.Scans.{scan_at}
 use Rattle.trace.specs.declared.Report.{Report}
 use Rattle.records.specs.declared.Stop.{Stop}
-use Rattle.records.specs.declared.Stop.TheVariants.{End, Spent, Memory, UnknownTag, WrongLength, Cut, NoRepeat}
+use Rattle.records.specs.declared.Stop.TheVariants.{End, Spent, Refused}
 use Rattle.trace.specs.Run.{run_of}
-use Rattle.records.specs.Stops.{stop_number}
+use Rattle.records.specs.Stops.{cause_number}
 use Rattle.registers.proofs.Cases.{reads, reads_bit, answers, read_answers, often, pulses, counting, triggered, asked, asked_often}
 
 -- ---- gates: a gate in a state with a timer, mode bit, prepare signal, last prepare signal and recover signal
@@ -387,11 +387,7 @@ tick_record n inputs gates =
 abbrev pub stop_mark : Stop → ℕ
 stop_mark End = 20
 stop_mark Spent = 30
-stop_mark Memory = stop_number Memory
-stop_mark UnknownTag = stop_number UnknownTag
-stop_mark WrongLength = stop_number WrongLength
-stop_mark Cut = stop_number Cut
-stop_mark NoRepeat = stop_number NoRepeat
+stop_mark (Refused cause) = cause_number cause
 
 -- the report of a run from power-up, as one number: stop, next offset, ticks, records and refusals, three digits each
 abbrev pub digits : Report → ℕ

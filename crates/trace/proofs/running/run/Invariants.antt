@@ -4,8 +4,6 @@ use mathlib.Core.Path.{◌≡◌}
 use lib.ListN.{length}
 use Rattle.device.specs.State.{machine}
 use Rattle.trace.specs.Run.{progress_of, run, run_of}
-use Rattle.trace.specs.Sound.{Sound}
-use Rattle.trace.specs.Turns.{so_far}
 use Rattle.trace.proofs.Halts.{ended}
 use Rattle.trace.proofs.running.run.Given as goal
 
@@ -14,10 +12,9 @@ abbrev pub invariant-loop-stop : goal.invariant-loop-stop
 invariant-loop-stop l = record {
   trace : l.running.trace.now ≡ l.trace;
   budget : l.running.budget ≡ l.budget;
-  sound : Sound l.trace l.budget (so_far l.running);
-  same : ended l.trace l.budget (run (progress_of l.state (so_far l.running) true) l.mem) ≡ run_of l.trace l.budget (machine l.fn.state l.fn.mem);
+  same : ended l.trace l.budget (run (progress_of l.state l.running.report true) l.mem) ≡ run_of l.trace l.budget (machine l.fn.state l.fn.mem);
 }
 
 -- each record moves the offset on
 abbrev pub decreases-loop-stop : goal.decreases-loop-stop
-decreases-loop-stop l = length l.trace - l.running.next
+decreases-loop-stop l = length l.trace - l.running.report.next
