@@ -68,12 +68,12 @@ module _ (l : List Act) (n : Machine) (h : Rehearsed l n) where
   -- of the calls that the functions made, by themselves or as records of runs: a request that one of them makes stands in the crate where
   -- `stand_after` says, and that is `finished` in time
   module _ (l₁ : List Call) (x : Call) (l₂ : List Call) (cut : list_of l ≡ l₁ ++ (x ∷ l₂)) (q : Request) (made : request_made (after l₁) x ≡ Some q) where
-    pub code_stands : Stands n.state.common q (stand_after (step (after l₁) x) l₂ (waits (after l₁).state.common.queue.waiting))
+    pub code_stands : Stands n.state.common q (stand_after (step (after l₁) x) l₂ (waits (length (after l₁).state.common.queue)))
     unfolding after from
     code_stands = rw (rehearsed l n h, cut, from_append machine0 l₁ (x ∷ l₂)) (stands l₁ x q made l₂)
 
-    pub code_finishes : 128 + 129 * ((after l₁).state.common.queue.waiting + 1) ≤ accepted_ticks l₂ →
-        stand_after (step (after l₁) x) l₂ (waits (after l₁).state.common.queue.waiting) ≡ finished
+    pub code_finishes : 128 + 129 * (length (after l₁).state.common.queue + 1) ≤ accepted_ticks l₂ →
+        stand_after (step (after l₁) x) l₂ (waits (length (after l₁).state.common.queue)) ≡ finished
     code_finishes = finishes l₁ x q made l₂
 
   -- what a read after the list returns

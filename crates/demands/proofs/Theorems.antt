@@ -185,12 +185,12 @@ code_isolation_within = returning.code_isolation_within
 module _ (l : List Act) (n : Machine) (h : Rehearsed l n) (l₁ : List Call) (x : Call) (l₂ : List Call) (cut : list_of l ≡ l₁ ++ (x ∷ l₂))
     (q : Request) (made : request_made (after l₁) x ≡ Some q) where
   -- .. stands in the crate that the functions gave where `stand_after` says,
-  pub code_stands : Stands n.state.common q (stand_after (step (after l₁) x) l₂ (waits (after l₁).state.common.queue.waiting))
+  pub code_stands : Stands n.state.common q (stand_after (step (after l₁) x) l₂ (waits (length (after l₁).state.common.queue)))
   code_stands = returning.code_stands l n h l₁ x l₂ cut q made
 
   -- and that is `finished` once 128 + 129 × (k + 1) ticks are accepted behind it, k waiting ahead.
-  pub code_finishes : 128 + 129 * ((after l₁).state.common.queue.waiting + 1) ≤ accepted_ticks l₂ →
-      stand_after (step (after l₁) x) l₂ (waits (after l₁).state.common.queue.waiting) ≡ finished
+  pub code_finishes : 128 + 129 * (length (after l₁).state.common.queue + 1) ≤ accepted_ticks l₂ →
+      stand_after (step (after l₁) x) l₂ (waits (length (after l₁).state.common.queue)) ≡ finished
   code_finishes = returning.code_finishes l n h l₁ x l₂ cut q made
 
 -- Document 02, request 1: two rehearsals in whose accepted ticks an input has the same levels read its raw count alike.

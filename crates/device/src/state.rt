@@ -7,7 +7,7 @@ use gates::Gate;
 use loader::{Queue, Reload};
 use watchdogs::Watchdog;
 
-#[derive(Clone, Copy)]
+#[derive(Clone, Drop)]
 pub struct Crate {
     pub counters: [Counter; 128],
     // registers 0x1600 to 0x161F, four bits a counter; as words, since in the counters each read would put one together from four and each
@@ -38,7 +38,7 @@ impl Default for Crate {
 }
 
 // What all counters share, so that every counter's sheet has it whole.
-#[derive(Clone, Copy, Default)]
+#[derive(Clone, Default, Drop)]
 pub struct Common {
     // registers 0x0801, 0x0A00, 0x0A01 and 0x0A02
     pub control: u16,

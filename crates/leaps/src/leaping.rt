@@ -47,7 +47,7 @@ fn quiet(k: u32, s: &Crate, levels: Levels) -> bool
 {
     s.levels == levels.inputs
         && s.common.loader.is_none()
-        && s.common.queue.waiting == 0
+        && s.common.queue.is_empty()
         && lines::low_phases(&s.common.phases)
         && gate_leaps::steady_gates(&s.gates, k, levels.gates)
 }

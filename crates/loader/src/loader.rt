@@ -1,11 +1,12 @@
 // Requests for a reload, the queue in which they wait, and the loader that works them off.
-ghost use Rattle.std.specs.Prelude.{◌≡◌, ◌+◌, ◌<◌, slice_index_or};
+ghost use Rattle.std.specs.Prelude.{◌≡◌, ◌<◌, length};
 ghost use Rattle.words.specs.Word.{field_of};
-ghost use Rattle.loader.specs.Loader.{pushed, taken, left_of, queue0, request0, request_for, shifted, loader_step, queue_step, group_at, load_into};
+ghost use Rattle.loader.specs.Loader.{is_empty, is_full, pushed, taken, left_of, queue0, request0, request_for, loader_step, queue_step, group_at, load_into};
 
 use crate::memory::{self, CounterNumber};
+use arrayvec::ArrayVec;
 use counters::Counter;
-use std::array;
+use std::marker::Model;
 use words::Field;
 
 #[derive(Clone, Copy, Default)]
@@ -31,21 +32,27 @@ impl From<u16> for Request {
     }
 }
 
-// The first `waiting` places hold requests, the oldest first.
-#[derive(Clone, Copy)]
+// The requests that wait, the oldest first. Clauses see the list of them.
+#[derive(Clone, Drop)]
 pub struct Queue {
-    pub places: [Request; 16],
-    pub waiting: u16,
+    requests: ArrayVec<Request, 16>,
+}
+
+impl Model for Queue {
+    ghost use Rattle.std.specs.Prelude.{List};
+    ghost use Rattle.loader.specs.declared.loader.Request.{Request};
+
+    ghost Value = { List Request };
+
+    ghost view = { λ q. q.requests.items };
 }
 
 impl Default for Queue {
     ghost is_default = { λ q. q ≡ queue0 };
 
-    #[tactic(auto, unfolding(lists::specs::Table::tabulate, lists::specs::Table::table_from))]
     fn default() -> Queue {
         Queue {
-            places: [Request::default(); 16],
-            waiting: 0,
+            requests: ArrayVec::new(),
         }
     }
 }
@@ -57,34 +64,29 @@ pub struct Reload {
     pub next: u16,
 }
 
-// The request behind place i, and an empty one behind the last.
-fn behind(places: &[Request; 16], i: usize) -> Request
-    requires { i < 16 }
-    ensures { result ≡ slice_index_or places.now (i + 1) request0 }
-{
-    if i < 15 {
-        places[i + 1]
-    } else {
-        Request::default()
-    }
-}
-
-// Every request one place forward; the last place is empty.
-fn shift(places: &[Request; 16]) -> [Request; 16]
-    ensures { result ≡ shifted places.now }
-{
-    array::from_fn(|i| behind(places, i))
-}
-
 impl Queue {
+    // Whether no request waits.
+    pub fn is_empty(&self) -> bool
+        ensures { result ≡ is_empty self.now }
+    {
+        self.requests.is_empty()
+    }
+
+    // Whether 16 requests wait; more never do.
+    #[tactic(auto, using(bools::proofs::Tests::tests))]
+    pub fn is_full(&self) -> bool
+        ensures { result ≡ is_full self.now }
+    {
+        self.requests.is_full()
+    }
+
     // A request behind those that wait.
     #[tactic(auto, unfolding(crate::specs::Loader::pushed))]
     pub fn push(&mut self, request: Request)
-        requires { self.old.waiting < 16 }
+        requires { length self.old < 16 }
         ensures { self.new ≡ pushed self.old request }
     {
-        self.places[self.waiting as usize] = request;
-        self.waiting += 1;
+        self.requests.push(request);
     }
 
     // The oldest request leaves the queue, where one waits.
@@ -92,13 +94,7 @@ impl Queue {
     pub fn take(&mut self) -> Option<Request>
         ensures { (result ≡ taken self.old) × (self.new ≡ left_of self.old) }
     {
-        if self.waiting == 0 {
-            return None;
-        }
-        let oldest = self.places[0];
-        self.places = shift(&self.places);
-        self.waiting -= 1;
-        Some(oldest)
+        self.requests.pop_at(0)
     }
 }
 

@@ -7,19 +7,18 @@ use mathlib.Core.List.{List, [], ◌∷◌}
 use mathlib.Core.Path.{◌≡◌, refl, ap, ◌∙◌}
 use borrow.Author.Tests.{eqb-true, eqb-false, lt-ltb, ne_eqb}
 use lib.Dec.{eqb}
-use lib.ListN.{get_or, length}
-use lib.Seq.{get_or-set_same, get_or-set_other}
+use lib.ListN.{get_or, get_or-append, length, length-append, length-drop}
+use lib.Seq.{get_or-append_seam, get_or-drop}
 use Rattle.std.proofs.lemmas.Grind.{common_steps}
 use Rattle.std.proofs.lemmas.Bool.Decides.{nat_tests}
 use Rattle.std.proofs.Common.{Option, Some, None}
 use Rattle.std.specs.Option.{option_map_or}
 use Rattle.bools.proofs.Tests.{both, cases}
 use Rattle.std.proofs.lemmas.Bool.{and_parts}
-use Rattle.lists.proofs.Tables.{get_d_tabulate, length_tabulate}
-use Rattle.loader.specs.declared.loader.Queue.{Queue}
+use Rattle.lists.proofs.Tables.{length_tabulate}
 use Rattle.loader.specs.declared.loader.Reload.{Reload as Reloading}
 use Rattle.loader.specs.declared.loader.Request.{Request}
-use Rattle.loader.specs.Loader.{dropped, is_empty, loader_step, oldest, pushed, queue_step, request0, request_for, shifted}
+use Rattle.loader.specs.Loader.{Queue, dropped, is_empty, loader_step, oldest, pushed, queue_step, request0, request_for}
 use Rattle.device.specs.declared.map.Register.{Register}
 use Rattle.device.specs.declared.map.Register.TheVariants.{Control, Key, Enable, Reload}
 use Rattle.device.specs.declared.state.Common.{Common}
@@ -43,39 +42,39 @@ use Rattle.sheet.proofs.Reached.{common_start, common_tick_in, control_in, enabl
 
 -- ---- a tick of the loader and the queue, at a request that stands somewhere
 
-waiting_some : (q : Queue) (k : ℕ) → k < q.waiting → is_empty q ≡ false
-waiting_some q k h = ne_eqb q.waiting 0 (λ e. omega arith)
+waiting_some : (q : Queue) (k : ℕ) → k < length q → is_empty q ≡ false
+waiting_some q k h = ne_eqb (length q) 0 (λ e. omega arith)
 
-dropped_at : (q : Queue) → q.waiting ≤ 16 → (k : ℕ) → suc k < q.waiting → get_or (dropped q).places k request0 ≡ get_or q.places (suc k) request0
-unfolding dropped shifted
-dropped_at q w k h = get_d_tabulate 16 _ k request0 (omega arith) ∙ ap (λ (n : ℕ). get_or q.places n request0) (omega arith)
-
-dropped_more : (q : Queue) (k : ℕ) → suc k < q.waiting → k < (dropped q).waiting
+dropped_at : (q : Queue) (k : ℕ) → get_or (dropped q) k request0 ≡ get_or q (suc k) request0
 unfolding dropped
-dropped_more q k h = omega arith
+dropped_at q k = get_or-drop 1 q k request0 ∙ ap (λ (n : ℕ). get_or q n request0) (omega arith)
+
+dropped_more : (q : Queue) (k : ℕ) → suc k < length q → k < length (dropped q)
+unfolding dropped
+dropped_more q k h = omega (arith, length-drop 1 q)
 
 -- the loader is idle or works on a request, with the equation in hand
 loaders : {A : Type 0} (l : Option Reloading) → (l ≡ None → A) → ((x : Reloading) → l ≡ Some x → A) → A
 loaders l f g = grind arith
 
-stands_tick : (cm : Common) (r : Request) (s : Stand) → cm.queue.waiting ≤ 16 → LoaderInRange cm.loader → Stands cm r s →
+stands_tick : (cm : Common) (r : Request) (s : Stand) → LoaderInRange cm.loader → Stands cm r s →
     Stands (common_tick cm) r (stand_tick cm.loader s)
 unfolding common_tick loader_step queue_step
-stands_tick cm r (waits zero) w n (queued k h e) =
+stands_tick cm r (waits zero) n (queued k h e) =
     loaders cm.loader
     (λ b. rw (b, waiting_some cm.queue 0 h) (loading _ refl (unfold oldest in e)))
     (λ l b. rw b (queued 0 h e))
-stands_tick cm r (waits (suc k)) w n (queued j h e) =
+stands_tick cm r (waits (suc k)) n (queued j h e) =
     loaders cm.loader
-    (λ b. rw (b, waiting_some cm.queue (suc k) h) (queued k (dropped_more cm.queue k h) (dropped_at cm.queue w k h ∙ e)))
+    (λ b. rw (b, waiting_some cm.queue (suc k) h) (queued k (dropped_more cm.queue k h) (dropped_at cm.queue k ∙ e)))
     (λ l b. rw b (queued (suc k) h e))
-stands_tick cm r works w n (loading l b e) =
+stands_tick cm r works n (loading l b e) =
     let n₁ : LoaderInRange (Some l) = rw b at n in
     rw b
     (cases (eqb l.next 127)
     (λ f. rw f past)
     (λ f. rw (f, lt-ltb l.next 127 (omega (arith, n₁.next, eqb-false l.next 127 f))) (loading _ refl e)))
-stands_tick cm r finished w n past = loaders cm.loader (λ b. rw b past) (λ l b. rw b past)
+stands_tick cm r finished n past = loaders cm.loader (λ b. rw b past) (λ l b. rw b past)
 
 -- ---- the measure falls by one with an accepted tick
 
@@ -105,15 +104,16 @@ left_tick cm r finished n past = loaders cm.loader (λ b. rw b refl) (λ l b. rw
 
 data Grown (q : Queue) : Queue → Type 0 where
   same : Grown q q
-  more : (r : Request) → q.waiting < 16 → Grown q (pushed q r)
+  more : (r : Request) → length q < 16 → Grown q (pushed q r)
 
 pub record Still (cm cm' : Common) : Type 0 where
   loader : cm'.loader ≡ cm.loader
   queue : Grown cm.queue cm'.queue
 
-place_grown : (q q' : Queue) → Grown q q' → (k : ℕ) → k < q.waiting → (k < q'.waiting) × (get_or q'.places k request0 ≡ get_or q.places k request0)
+place_grown : (q q' : Queue) → Grown q q' → (k : ℕ) → k < length q → (k < length q') × (get_or q' k request0 ≡ get_or q k request0)
 unfolding pushed
-place_grown q q' h k e = grind (arith, get_or-set_other)
+place_grown q q same k e = (e, refl)
+place_grown q q' (more r free) k e = (rw length-append (omega arith), get_or-append q (r ∷ []) request0 k e)
 
 stands_still : (cm cm' : Common) → Still cm cm' → (r : Request) (s : Stand) → Stands cm r s → Stands cm' r s
 stands_still cm cm' t r (waits k) (queued j h e) =
@@ -188,7 +188,7 @@ unfolding tick_of
 due_tick m inputs gates r s n d = record {
   full = d.full;
   range = common_tick_in m.state.common d.range;
-  stands = stands_tick m.state.common r s d.range.queue.waiting d.range.loader d.stands;
+  stands = stands_tick m.state.common r s d.range.loader d.stands;
   left = unfold common_tick in (left_tick m.state.common r s d.range.loader d.stands ∙ ap (λ (k : ℕ). k - 1) d.left);
 }
 
@@ -222,7 +222,7 @@ abbrev work : Machine → ℕ
 work m = ticks_at_work m.state.common.loader
 
 abbrev ahead : Machine → ℕ
-ahead m = m.state.common.queue.waiting
+ahead m = length m.state.common.queue
 
 -- it stands behind those that wait
 due_pushed : (m m' : Machine) (r : Request) → Full m' → CommonInRange m.state.common → CommonInRange m'.state.common → ahead m < 16 →
@@ -231,8 +231,8 @@ due_pushed : (m m' : Machine) (r : Request) → Full m' → CommonInRange m.stat
 due_pushed m m' r f h h' free q l = record {
   full = f;
   range = h';
-  stands = queued (ahead m) (rw q (unfold pushed in (omega arith)))
-      (rw q (unfold pushed in (get_or-set_same m.state.common.queue.places (ahead m) r request0 (omega (arith, h.queue.places)))));
+  stands = queued (ahead m) (rw q (unfold pushed in (rw length-append (omega arith))))
+      (rw q (unfold pushed in (get_or-append_seam m.state.common.queue r [] request0)));
   left = ap (λ (x : Option Reloading). ticks_left x (waits (ahead m))) l;
 }
 

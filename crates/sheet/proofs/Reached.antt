@@ -357,9 +357,8 @@ common_start = record {
   enable = lit< tt;
   reload = lit< tt;
   queue = record {
-    places = length_tabulate 16 _;
     waiting = omega arith;
-    requests = all_tabulate request0 (λ i. RequestInRange) (λ i. request0_in) 16 _ (λ i. request0_in);
+    requests = λ i. request0_in;
   };
   loader = tt;
   phases = all_tabulate 0 (λ k n. n < phase_limit) (λ k. lit< tt) 9 _ (λ k. lit< tt);

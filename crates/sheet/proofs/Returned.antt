@@ -75,14 +75,14 @@ module _ (l : List Act) (n : Machine) (h : Rehearsed l n) where
   code_reachable o = subst Reached (sym (rehearsed l n h)) (reachable (list_of l) o)
 
   finishes_from : (x : Call) (q : Request) → request_made n x ≡ Some q →
-      (more : List Call) → 128 + 129 * (n.state.common.queue.waiting + 1) ≤ accepted_ticks more →
-      stand_after (step n x) more (waits n.state.common.queue.waiting) ≡ finished
+      (more : List Call) → 128 + 129 * (length n.state.common.queue + 1) ≤ accepted_ticks more →
+      stand_after (step n x) more (waits (length n.state.common.queue)) ≡ finished
   finishes_from x q = grind (arith, rehearsed, finishes)
 
   -- a request that a call made, and whatever is done after it
   pub code_finishes : (x : Call) (q : Request) → request_made n x ≡ Some q → (a : Answer) (k : Machine) → Returned n x a k →
-      (more : List Act) → 128 + 129 * (n.state.common.queue.waiting + 1) ≤ accepted_ticks (list_from k more) →
-      stand_after k (list_from k more) (waits n.state.common.queue.waiting) ≡ finished
+      (more : List Act) → 128 + 129 * (length n.state.common.queue + 1) ≤ accepted_ticks (list_from k more) →
+      stand_after k (list_from k more) (waits (length n.state.common.queue)) ≡ finished
   code_finishes x q made a k back more = grind (arith, finishes_from)
 
   -- what a read after the list returns

@@ -20,7 +20,7 @@ pub fn request(cm: &mut Common, request: Request) -> Result<(), Refusal>
     if 31 < request.dataset {
         return Err(Refusal::Dataset);
     }
-    if 16 <= cm.queue.waiting {
+    if cm.queue.is_full() {
         return Err(Refusal::Full);
     }
     cm.queue.push(request);
