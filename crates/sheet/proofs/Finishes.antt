@@ -112,8 +112,8 @@ pub record Still (cm cm' : Common) : Type 0 where
 
 place_grown : (q q' : Queue) → Grown q q' → (k : ℕ) → k < length q → (k < length q') × (get_or q' k request0 ≡ get_or q k request0)
 unfolding pushed
-place_grown q q same k e = (e, refl)
-place_grown q q' (more r free) k e = (rw length-append (omega arith), get_or-append q (r ∷ []) request0 k e)
+place_grown q p same k e = (e, refl)
+place_grown q p (more r free) k e = (rw length-append (omega arith), get_or-append q (r ∷ []) request0 k e)
 
 stands_still : (cm cm' : Common) → Still cm cm' → (r : Request) (s : Stand) → Stands cm r s → Stands cm' r s
 stands_still cm cm' t r (waits k) (queued j h e) =
