@@ -24,7 +24,7 @@ use Rattle.counters.specs.Counter.{clear_counters, cleared, counter0, counter_at
 use Rattle.gates.specs.Gate.{each_gate, gate0, gate_at, gate_step, with_mode, with_prepare, with_prepare_pulse, with_recover, with_recover_pulse, with_timeout}
 use Rattle.lines.specs.Lines.{bad_levels, phase_limit}
 use Rattle.lines.specs.Raw.{count_rises, raw_at}
-use Rattle.loader.specs.Loader.{request0, request_for}
+use Rattle.loader.specs.Loader.{request_for}
 use Rattle.loader.specs.Memory.{loaded, memory_words, replaced, word_at}
 use Rattle.watchdogs.specs.Watchdog.{reset_in, reset_watchdogs, step_watchdogs, watchdog0, watchdog_at, watchdog_top, with_reset}
 use Rattle.device.specs.declared.map.Register.{Register}
@@ -45,7 +45,7 @@ use Rattle.tagging.specs.Tag.{noted_in, tag_of, tag_request}
 use Rattle.ticking.specs.Tick.{common_tick, rest_tick, tick_of}
 use Rattle.writing.specs.Write.{control_write, dataset_in, enable_write, group_in, key_write, on_common, on_counters, on_gates, reload_answer, reload_write, request_answer, requested, reset_by, rest_write, with_reload, with_selected, write_at}
 use Rattle.registers.proofs.Whole.{accepted, length_replaced}
-use Rattle.sheet.specs.Reachable.{CommonInRange, CounterInRange, GateInRange, OfWords, Reached, RequestInRange, RestInRange}
+use Rattle.sheet.specs.Reachable.{CommonInRange, CounterInRange, GateInRange, OfWords, Reached, RestInRange}
 use Rattle.sheet.proofs.Changes.{tag_by}
 use Rattle.sheet.proofs.InRange.{cleared_in, counter0_in, gate_in_lem, input_in, load_all, load_in, loader_in, phases_in, pushed_in, queue_in, request0_in, taken, tick_in, watchdog_in}
 
