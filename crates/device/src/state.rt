@@ -1,14 +1,13 @@
 // The crate's state: what each counter and gate has, what all counters share, and what no counter sees. The defaults are those of power-up.
-ghost use Rattle.std.specs.Prelude.{◌≡◌, ⊤};
+ghost use Rattle.std.specs.Prelude.{◌≡◌};
 ghost use Rattle.device.specs.State.{rest0, power_up};
 
 use counters::Counter;
 use gates::Gate;
 use loader::{Queue, Reload};
-use std::alloc::AllocError;
 use watchdogs::Watchdog;
 
-#[derive(Drop)]
+#[derive(Clone, Drop)]
 pub struct Crate {
     pub counters: [Counter; 128],
     // registers 0x1600 to 0x161F, four bits a counter; as words, since in the counters each read would put one together from four and each
@@ -19,20 +18,6 @@ pub struct Crate {
     pub levels: u64,
     pub common: Common,
     pub rest: Rest,
-}
-
-// A clone is equal, and does not fail.
-impl Clone for Crate {
-    ghost is_clone = { λ s c. c ≡ s };
-
-    ghost is_infallible = { λ _. ⊤ };
-
-    fn clone(&self) -> Result<Crate, AllocError> {
-        Ok(Crate {
-            common: self.common.clone()?,
-            ..*self
-        })
-    }
 }
 
 // By hand: with the derived one the proof that its 128 counters and twelve gates are those of power-up does not close.
@@ -53,7 +38,7 @@ impl Default for Crate {
 }
 
 // What all counters share, so that every counter's sheet has it whole.
-#[derive(Default, Drop)]
+#[derive(Clone, Default, Drop)]
 pub struct Common {
     // registers 0x0801, 0x0A00, 0x0A01 and 0x0A02
     pub control: u16,
@@ -64,20 +49,6 @@ pub struct Common {
     // the reload that the loader works on, none while it is idle
     pub loader: Option<Reload>,
     pub phases: [u32; 9],
-}
-
-// A clone is equal, and does not fail.
-impl Clone for Common {
-    ghost is_clone = { λ cm c. c ≡ cm };
-
-    ghost is_infallible = { λ _. ⊤ };
-
-    fn clone(&self) -> Result<Common, AllocError> {
-        Ok(Common {
-            queue: self.queue.clone()?,
-            ..*self
-        })
-    }
 }
 
 // What no counter sees.

@@ -1,12 +1,11 @@
 // Requests for a reload, the queue in which they wait, and the loader that works them off.
-ghost use Rattle.std.specs.Prelude.{◌≡◌, ◌<◌, length, ⊤};
+ghost use Rattle.std.specs.Prelude.{◌≡◌, ◌<◌, length};
 ghost use Rattle.words.specs.Word.{field_of};
 ghost use Rattle.loader.specs.Loader.{is_empty, is_full, pushed, taken, left_of, queue0, request_for, loader_step, queue_step, group_at, load_into};
 
 use crate::memory::{self, CounterNumber};
 use arrayvec::ArrayVec;
 use counters::Counter;
-use std::alloc::AllocError;
 use std::marker::Model;
 use words::Field;
 
@@ -34,7 +33,7 @@ impl From<u16> for Request {
 }
 
 // The requests that wait, the oldest first. Clauses see the list of them.
-#[derive(Drop)]
+#[derive(Clone, Drop)]
 pub struct Queue {
     requests: ArrayVec<Request, 16>,
 }
@@ -46,19 +45,6 @@ impl Model for Queue {
     ghost Value = { List Request };
 
     ghost view = { λ q. q.requests.items };
-}
-
-// A clone is equal. It does not fail, as it allocates nothing.
-impl Clone for Queue {
-    ghost is_clone = { λ q c. c ≡ q };
-
-    ghost is_infallible = { λ _. ⊤ };
-
-    fn clone(&self) -> Result<Queue, AllocError> {
-        let mut requests = ArrayVec::new();
-        let _fits = requests.try_extend_from_slice(self.requests.as_slice());
-        Ok(Queue { requests })
-    }
 }
 
 impl Default for Queue {
