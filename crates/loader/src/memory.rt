@@ -1,6 +1,7 @@
 // Threshold memory: 16,384 lent words, 32 datasets of 512. A part of it is handed on to be read or written.
-ghost use Rattle.std.specs.Prelude.{◌≡◌, ◌+◌, ◌*◌, ◌<◌, length};
+ghost use Rattle.std.specs.Prelude.{◌≡◌, ◌+◌, ◌*◌, ◌<◌, MatchOption, true, false, length};
 ghost use Rattle.lists.specs.Table.{tabulate};
+ghost use Rattle.loader.specs.Loader.{is_beyond};
 ghost use Rattle.loader.specs.Memory.{memory_words, place_of, loaded, replaced};
 
 use counters::Counter;
@@ -9,11 +10,23 @@ use std::ops::Range;
 // A dataset, by its number among the 32.
 #[derive(Clone, Copy)]
 pub struct Dataset {
-    pub number: usize,
+    number: usize,
     ghost one_of_32: { number < 32 },
 }
 
 impl Dataset {
+    // The dataset of a number, and none where it is above 31.
+    pub fn new(number: u16) -> Option<Dataset>
+        ensures { MatchOption result (is_beyond number ≡ true) (λ d. (is_beyond number ≡ false) × (d.number ≡ number)) }
+    {
+        if 31 < number {
+            return None;
+        }
+        Some(Dataset {
+            number: number.into(),
+        })
+    }
+
     // Where its part of the memory stands.
     fn part(self) -> Range<usize>
         ensures { (result.start ≡ 512 * self.number) × (result.end ≡ 512 * self.number + 512) }
@@ -44,14 +57,13 @@ fn load_from(part: &[u16], n: CounterNumber, c: Counter) -> Counter
 }
 
 // A counter with the thresholds of counter n in a dataset; there are 32, and any other reads 0.
-pub fn load(mem: &[u16; 16384], dataset: usize, n: CounterNumber, c: Counter) -> Counter
+pub fn load(mem: &[u16; 16384], dataset: u16, n: CounterNumber, c: Counter) -> Counter
     ensures { result ≡ loaded mem.now (place_of dataset n.number) c }
 {
-    if dataset < 32 {
-        let dataset = Dataset { number: dataset };
-        return load_from(&mem[dataset.part()], n, c);
-    }
-    c.with_thresholds(0, 0)
+    let Some(dataset) = Dataset::new(dataset) else {
+        return c.with_thresholds(0, 0);
+    };
+    load_from(&mem[dataset.part()], n, c)
 }
 
 // 512 words over one dataset; every other word stays.

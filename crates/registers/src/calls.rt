@@ -12,7 +12,7 @@ use interlocks::OutputScan;
 use lines::Levels;
 use loader::Dataset;
 
-// Power-up: a new crate, and a memory of zeros.
+// Power-up: a new crate, and a memory of zeros. A refused one gives a crate too, so the answer is a pair and no `Result` of a crate.
 #[tactic(auto, unfolding(crate::specs::Calls::powered, crate::specs::Calls::powered_memory, device::specs::State::memory0))]
 pub fn power_up(mem: &mut [u16]) -> (Crate, Result<(), Refusal>)
     ensures { (result ≡ powered mem.old) × (mem.new ≡ powered_memory mem.old) }
@@ -88,10 +88,7 @@ pub fn download(state: &Crate, mem: &mut [u16], dataset: u16, words: &[u16]) -> 
 {
     let mem = mem.as_mut_array().ok_or(Refusal::Memory)?;
     let words = words.as_array().ok_or(Refusal::Length)?;
-    if 31 < dataset {
-        return Err(Refusal::Dataset);
-    }
-    let number = usize::from(dataset);
-    loader::download(mem, Dataset { number }, words);
+    let dataset = Dataset::new(dataset).ok_or(Refusal::Dataset)?;
+    loader::download(mem, dataset, words);
     Ok(())
 }

@@ -10,16 +10,14 @@ ghost use Rattle.writing.specs.Write.{request_answer, triggers, reload_answer, r
 
 use device::{Common, Crate, Refusal, Register, Rest, Setting};
 use gates::Gate;
-use loader::Request;
+use loader::{Dataset, Request};
 
 // A request enters the queue, or is refused: dataset above 31, then 16 waiting.
 #[tactic(auto, using(bools::proofs::Tests::tests), unfolding(crate::specs::Write::request_answer))]
 pub fn request(cm: &mut Common, request: Request) -> Result<(), Refusal>
     ensures { (result ≡ request_answer cm.old.queue request.dataset) × (cm.new ≡ pick (is_done (request_answer cm.old.queue request.dataset)) (with_queue cm.old (pushed cm.old.queue request)) cm.old) }
 {
-    if 31 < request.dataset {
-        return Err(Refusal::Dataset);
-    }
+    Dataset::new(request.dataset).ok_or(Refusal::Dataset)?;
     if cm.queue.is_full() {
         return Err(Refusal::Full);
     }

@@ -4,6 +4,7 @@ use native.Mathlib.Nat.{add_assoc}
 use native.Mathlib.Omega.{arith}
 use mathlib.Core.List.{List}
 use mathlib.Core.Path.{◌≡◌, sym, ◌∙◌}
+use borrow.Author.Tests.{ltb-true}
 use lib.IntN.{pos}
 use lib.ListN.{length, get_or, take, drop, get_or-eq_default}
 use lib.Seq.{get_or-take, get_or-drop}
@@ -27,13 +28,14 @@ loaded_past m at c h =
     let z : (i : ℕ) → at ≤ i → get_or m i 0 ≡ 0 = λ i l. get_or-eq_default m 0 (omega arith) in
     rw (z at (omega arith), z (at + 1) (omega arith), z (at + 2) (omega arith), z (at + 3) (omega arith))
 
-pub returns-then-dataset-lt32 : goal.returns-then-dataset-lt32
-returns-then-dataset-lt32 c =
+pub returns-in_default : goal.returns-in_default
+returns-in_default c =
     let a = c.args in
-    let base = 512 * a.dataset in
-    c.load_from.ensures ∙ rw (c.part.ensures.0, c.part.ensures.1) (loaded_part a.mem.now base (base + 512 - base) (4 * a.n.number) a.c (omega arith))
+    let l : 31 < a.dataset = ltb-true 31 a.dataset c.in_default.ensures in
+    c.with_thresholds.ensures ∙ sym (loaded_past a.mem.now (512 * a.dataset + 4 * a.n.number) a.c (omega (arith, c.told-mem, l)))
 
 pub returns : goal.returns
 returns c =
     let a = c.args in
-    c.with_thresholds.ensures ∙ sym (loaded_past a.mem.now (512 * a.dataset + 4 * a.n.number) a.c (omega arith))
+    let base = 512 * c.in-Some.dataset.number in
+    c.load_from.ensures ∙ rw (c.part.ensures.0, c.part.ensures.1, sym c.in-Some.ensures.1) (loaded_part a.mem.now base (base + 512 - base) (4 * a.n.number) a.c (omega arith))
