@@ -14,7 +14,7 @@ pub struct Crate {
     // write would take one apart
     pub groups: [u16; 32],
     pub gates: [Gate; 12],
-    // the input levels of the last tick
+    // the input levels of the last tick; every counter sees them, and no counter sees the gate levels in `rest`, so they are not one `Levels`
     pub levels: u64,
     pub common: Common,
     pub rest: Rest,

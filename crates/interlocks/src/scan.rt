@@ -11,8 +11,8 @@ use crate::signals::{meet, signals};
 use device::Crate;
 use std::array;
 
-// What a scan tells of an output: its level, and how many of its selection words were read. Both, as request 3 asks for both of every output,
-// also of one that is 1, where an Option would have none.
+// What a scan tells of an output: its level, and how many of its selection words were read. An output that is 1 has all 22 read. Callers want
+// both, so they would take an Option apart at once.
 #[derive(Clone, Copy)]
 pub struct OutputScan {
     pub level: bool,
@@ -56,6 +56,7 @@ fn ended(s: &Crate) -> [Option<u16>; 6]
     for k in 0..22 {
         let words = words_next(&ended, &s.rest.selections, k);
         if words != [0; 6] {
+            // a name of its own first: an array set from a call on itself has no proof rule
             let next = ended_next(&ended, &words, signals(s, k), k + 1);
             ended = next;
         }

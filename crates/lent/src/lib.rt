@@ -6,7 +6,7 @@ ghost use Rattle.lent.specs.Sums.{lent_start, state_in, lent_sample, sum_sample_
 
 use sums::Sliding;
 
-// The calls answer by a number and not by a `Result`, since the C interface needs one: this, that of a refusal, or the next.
+// The calls answer by a number and not by a `Result`, since `mirvacula` hands it on to C as it is: this, that of a refusal, or the next.
 const DONE: u16 = 0;
 
 // Something lent has the wrong length.

@@ -10,7 +10,7 @@ use std::mem;
 #[derive(Clone, Copy, Debug, PartialEq, Eq)]
 pub struct BadSum;
 
-// 02, CR 4: the number of the refusal.
+// 02, CR 4: "W outside its range, the ring shorter than W, or a state whose place in the ring is not below W, 14".
 impl From<BadSum> for u16 {
     ghost from_gives = { λ _ number. number ≡ bad_sum };
 
@@ -73,7 +73,7 @@ impl Sliding {
     }
 }
 
-// The place after a place. A remainder is plainer, and was tried: with a division a sample takes 1.2 times as long.
+// The place after a place. A remainder would be shorter; with a division a sample takes 1.2 times as long.
 fn next_place(place: usize, window: usize) -> usize
     requires { place < window }
     ensures { result ≡ (place + 1) % window }
