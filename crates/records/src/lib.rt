@@ -23,7 +23,7 @@ pub enum Stop {
     Refused(Cause),
 }
 
-// The causes that stop a run: specs/Stops.antt has their numbers.
+// The causes that stop a run.
 #[derive(Clone, Copy, PartialEq, Eq)]
 pub enum Cause {
     Memory,
@@ -56,7 +56,8 @@ impl From<Cause> for u16 {
     }
 }
 
-// The cause's number, 0 for END and SPENT, which are no refusals.
+// The number of the table of causes, in which END and SPENT, being no refusals, have none: 0 for both. The theorems about all that is seen tell
+// a run's stop by it; the numbers of a program's own, which differ for the two, are those of `mirvacula::stop_code`.
 impl From<Stop> for u16 {
     ghost from_gives = { λ stop number. number ≡ stop_number stop };
 

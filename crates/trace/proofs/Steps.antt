@@ -11,7 +11,8 @@ use lib.Dec.{eqb, ltb, lit≤}
 use lib.ListN.{length}
 use mir.Val.{bool_byte}
 use Rattle.words.specs.Word.{bit_of}
-use Rattle.std.specs.Result.{is_err}
+use Rattle.core.specs.Bool.{then_some}
+use Rattle.std.specs.Prelude.{Option, is_none, is_ok, is_some, unwrap_or}
 use Rattle.std.proofs.Common.{Some, None, Ok, Err}
 use Rattle.bools.proofs.Tests.{cases, pick_elim}
 use Rattle.lists.specs.Table.{table_from, tabulate}
@@ -24,7 +25,6 @@ use Rattle.lines.specs.Lines.{bad_levels}
 use Rattle.records.specs.declared.Record.{Record}
 use Rattle.records.specs.declared.Record.TheVariants.{Ticks, Write, Tag}
 use Rattle.trace.specs.declared.Report.{Report}
-use Rattle.trace.specs.declared.running.Passed.{Passed}
 use Rattle.records.specs.Records.{Found, bytes_taken, header_bytes, is_known, length_at, next_at, number_at, payload_at, payload_bytes, record_at, repeat_bytes, tag_at, ticks_at}
 use Rattle.records.specs.declared.Stop.{Stop}
 use Rattle.records.specs.declared.Stop.TheVariants.{End, Spent, Refused}
@@ -36,6 +36,10 @@ use Rattle.trace.specs.Turns.{made}
 pub once_at_most : (b : Bool) → bit_of b ≤ 1
 once_at_most true = lit≤ tt
 once_at_most false = lit≤ tt
+
+not_not : (b : Bool) → not (not b) ≡ b
+not_not true = refl
+not_not false = refl
 
 byte_is : (b : Bool) → bool_byte b ≡ bit_of b
 byte_is true = refl
@@ -64,15 +68,19 @@ unfolding step called
 tick_refused inputs gates m bad = cases (is_whole m.memory) (λ e. rw (e, bad)) (λ e. rw e)
 
 -- a call as its contract says it: what a record of it passes
-is_err_refused : (a : Answer) → is_err a ≡ not (is_done a)
-is_err_refused (Ok _) = refl
-is_err_refused (Err _) = refl
+no_ticks : (a : Answer) → unwrap_or {T = ℕ} (then_some (is_ok a) 0) 0 ≡ zero
+no_ticks (Ok _) = refl
+no_ticks (Err _) = refl
+
+none_refused : (a : Answer) → is_none {T = ℕ} (then_some (is_ok a) 0) ≡ not (is_done a)
+none_refused (Ok _) = refl
+none_refused (Err _) = refl
 
 pub call_made : (t : List ℕ) (r : Run) (x : Call) {s : Crate} {memory : List ℕ} {b : Bool} → machine s memory ≡ step (machine_of r) x →
-    b ≡ is_err (answer (machine_of r) x) → run (progress_of s (passed t r.progress.report 0 b) true) memory ≡ call_in t r x
+    b ≡ is_ok (answer (machine_of r) x) → run (made t r.progress.report (Ok (then_some b 0)) s) memory ≡ call_in t r x
 unfolding call_in passes from
 call_made t r x e h =
-    rw (h, is_err_refused (answer (machine_of r) x)) (ap (λ (m : Machine). run_on m (passed t r.progress.report 0 (is_refused (machine_of r) x)) true) e)
+    rw (h, no_ticks (answer (machine_of r) x), none_refused (answer (machine_of r) x)) (ap (λ (m : Machine). run_on m (passed t r.progress.report 0 (is_refused (machine_of r) x)) true) e)
 
 -- ---- records that stand whole
 
@@ -171,13 +179,13 @@ module _ (t : List ℕ) (budget : ℕ) (r : Run) (s : Sound t budget r.progress.
 
 -- a record that is passed, as its bytes and a refusal are counted
 module _ (t : List ℕ) (r : Report) {x : Record} (known : record_at t r.next ≡ Ok (Some x)) where
-  pub counted : (p : Passed) {bytes bit : ℕ} → bytes ≡ bytes_taken x → bit ≡ bool_byte p.refused →
-      report_of r.stop (r.next + bytes) (r.ticks + p.ticks) (r.records + 1) (r.refused + bit) ≡ passed t r p.ticks p.refused
-  counted p e f = rw (e, f, byte_is p.refused, (whole_at t r.next refl known).0)
+  pub counted : (used : Option ℕ) {bytes ticks bit : ℕ} (b : Bool) → bytes ≡ bytes_taken x → ticks ≡ unwrap_or used 0 → is_some used ≡ not b → bit ≡ bool_byte b →
+      report_of r.stop (r.next + bytes) (r.ticks + ticks) (r.records + 1) (r.refused + bit) ≡ passed t r (unwrap_or used 0) (is_none used)
+  counted used b e f g h = rw (e, f, g, h, not_not b, byte_is b, (whole_at t r.next refl known).0)
 
-  pub counted_sound : (budget : ℕ) (p : Passed) (s : Crate) (memory : List ℕ) {q : Crate} {left : List ℕ} → Sound t budget r →
-      run (made t r (Ok p) q) left ≡ by_record t budget (Ok (Some x)) (run (progress_of s r true) memory) → Sound t budget (passed t r p.ticks p.refused)
-  counted_sound budget p s memory sound e =
+  pub counted_sound : (budget : ℕ) (used : Option ℕ) (s : Crate) (memory : List ℕ) {q : Crate} {left : List ℕ} → Sound t budget r →
+      run (made t r (Ok used) q) left ≡ by_record t budget (Ok (Some x)) (run (progress_of s r true) memory) → Sound t budget (passed t r (unwrap_or used 0) (is_none used))
+  counted_sound budget used s memory sound e =
       subst (λ (u : Run). Sound t budget u.progress.report) (sym e)
       (record_kept t budget (run (progress_of s r true) memory) sound (Ok (Some x)) (whole_at t r.next refl known)).sound
 

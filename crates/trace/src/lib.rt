@@ -6,6 +6,7 @@ mod running;
 use records::Stop;
 pub use running::run;
 
+// What a run tells: why and before which record it stopped, the ticks used, the records passed, and how many of these were refused.
 #[derive(Clone, Copy)]
 pub struct Report {
     pub stop: Stop,

@@ -50,14 +50,9 @@ fn tick_on(state: &mut Crate, mem: &[u16; 16384], n: u64, levels: Levels)
     }
 }
 
-// A passed record: the ticks that it used, and whether its call was refused.
-#[derive(Clone, Copy)]
-struct Passed {
-    ticks: u64,
-    refused: bool,
-}
-
 // A run on its way: the trace, the budget of ticks, and the report so far, in which END stands until something else stops the run.
+// Crate and memory stay beside it: they are the caller's, lent on to each call as `registers` takes them, and there is a report to give before the
+// memory is known to be whole.
 #[derive(Drop)]
 struct Running<'a> {
     trace: &'a [u8],
@@ -85,7 +80,7 @@ impl<'a> Running<'a> {
         }
     }
 
-    // A tick record: refused by its levels, or too long for the ticks left, or so many ticks.
+    // A tick record: refused by its levels, or too long for the ticks left, or so many ticks. The answer is the ticks used, none of a refusal.
     #[tactic(auto, unfolding(crate::specs::Run::ticks_in, crate::specs::Run::passes, registers::specs::Calls::from), using(crate::proofs::Steps::tick_refused, bools::proofs::Tests::tests))]
     fn run_ticks(
         &self,
@@ -93,34 +88,28 @@ impl<'a> Running<'a> {
         mem: &[u16; 16384],
         repeat: u64,
         levels: Levels,
-    ) -> Result<Passed, Stop>
+    ) -> Result<Option<u64>, Stop>
         ensures { run_run (made self.now.trace.now self.now.report result state.new) mem.now ≡ ticks_in self.now.trace.now self.now.budget (run_run (progress_of state.old self.now.report true) mem.now) repeat levels.inputs levels.gates }
     {
         // levels come before the budget: a record that they refuse is passed
         if levels.are_bad() {
-            return Ok(Passed {
-                ticks: 0,
-                refused: true,
-            });
+            return Ok(None);
         }
         if self.budget - self.report.ticks < repeat {
             return Err(Stop::Spent);
         }
         tick_on(state, mem, repeat, levels);
-        Ok(Passed {
-            ticks: repeat,
-            refused: false,
-        })
+        Ok(Some(repeat))
     }
 
-    // What a record does, or why the run stops before it.
+    // What a record does, or why the run stops before it. The answer is the ticks used, none where the call was refused.
     #[tactic(auto, unfolding(crate::specs::Run::by_record), using(crate::proofs::Steps::call_made))]
     fn run_record(
         &self,
         state: &mut Crate,
         mem: &mut [u16; 16384],
         record: Record,
-    ) -> Result<Passed, Stop>
+    ) -> Result<Option<u64>, Stop>
         ensures { run_run (made self.now.trace.now self.now.report result state.new) mem.new ≡ by_record self.now.trace.now self.now.budget (Ok (Some «record»)) (run_run (progress_of state.old self.now.report true) mem.old) }
     {
         let answer = match record {
@@ -129,13 +118,10 @@ impl<'a> Running<'a> {
             Record::Tag { tag } => registers::tag(state, mem, tag),
         };
         // a refusal counts once, and the run goes on
-        Ok(Passed {
-            ticks: 0,
-            refused: answer.is_err(),
-        })
+        Ok(answer.is_ok().then_some(0))
     }
 
-    // One record: it is passed, or the run stops before it.
+    // One record: it is passed, or the run stops before it, also at the end of the trace: as `Err`, so that `?` hands on every stop.
     #[tactic(auto, unfolding(crate::specs::Run::once_of, crate::specs::Run::by_record))]
     fn once(&mut self, state: &mut Crate, mem: &mut [u16; 16384]) -> Result<(), Stop>
         ensures { (run_run (turned result state.new self.new.report) mem.new ≡ once_of self.old.trace.now self.old.budget (run_run (progress_of state.old self.old.report true) mem.old))
@@ -144,12 +130,12 @@ impl<'a> Running<'a> {
         let Some(record) = records::record_at(self.trace, self.report.next)? else {
             return Err(Stop::End);
         };
-        let passed = self.run_record(state, mem, record)?;
+        let ticks = self.run_record(state, mem, record)?;
         self.report = Report {
             next: self.report.next + record.bytes(),
-            ticks: self.report.ticks + passed.ticks,
+            ticks: self.report.ticks + ticks.unwrap_or(0),
             records: self.report.records + 1,
-            refused: self.report.refused + usize::from(passed.refused),
+            refused: self.report.refused + usize::from(ticks.is_none()),
             ..self.report
         };
         Ok(())
