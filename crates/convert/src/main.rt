@@ -4,8 +4,17 @@
 
 ghost use Rattle.std.specs.Prelude.{◌≡◌, length};
 
+// Frames of the longest capture.
+const FRAMES: usize = 131_072;
+
 // Nine bytes a frame.
-const LIMIT: usize = 1_179_648;
+const LIMIT: usize = 9 * FRAMES;
+
+// The longest capture and one byte more, which tells that there are too many.
+const ROOM: usize = LIMIT + 1;
+
+// The trace of the longest capture, whatever it holds: 14 bytes a frame.
+const TRACE: usize = 14 * FRAMES;
 
 // Room for so many bytes. A function, as the prover counts the elements of an array that stands in `main`, and there are too many.
 fn space<const N: usize>() -> [u8; N]
@@ -15,8 +24,7 @@ fn space<const N: usize>() -> [u8; N]
 }
 
 fn main(rt: HostRuntime) {
-    // the longest capture and one byte more, which tells that there are too many
-    let mut buf = space::<1_179_649>();
+    let mut buf = space::<ROOM>();
     let Ok(capture) = standard_input::read_input(&mut rt.stdin(), &mut buf) else {
         let _ = rt.eprintln("convert: cannot read standard input");
         return;
@@ -25,8 +33,7 @@ fn main(rt: HostRuntime) {
         let _ = rt.eprintln("convert: the capture is longer than 1179648 bytes (131072 frames)");
         return;
     }
-    // the trace of the longest capture, whatever it holds: 14 bytes a frame
-    let mut out = space::<1_835_008>();
+    let mut out = space::<TRACE>();
     match captures::convert(capture, &mut out) {
         Ok(bytes) => {
             if rt.write_all(&out[..bytes]).is_err() {
