@@ -43,6 +43,7 @@ pub fn write_trace(frames: &[[u8; FRAME_BYTES]], out: &mut [u8])
     ensures { out.new ≡ trace_in frames.now ++ drop (length (trace_in frames.now)) out.old }
 {
     for (record, repeat) in Repeats::of(frames).enumerate() {
+        // by index: a part lent out by `chunks_exact_mut` says nothing of what it ends as
         let at = RECORD_BYTES * record;
         repeat.put(&mut out[at..at + RECORD_BYTES]);
     }
