@@ -37,10 +37,10 @@ impl Page {
 
     // A text put behind what is written.
     #[tactic(auto, using(crate::proofs::Pages::take_room), unfolding(crate::specs::Page::written))]
-    pub fn put_text(mut self, text: &[u8]) -> Page
+    pub fn put_text(mut self, text: &str) -> Page
         ensures { written result ≡ cut (written self ++ text.now) }
     {
-        let _fits = self.text.write(text);
+        let _fits = self.text.write(text.as_bytes());
         self
     }
 

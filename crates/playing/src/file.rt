@@ -4,26 +4,22 @@ ghost use Rattle.machine.specs.Held.{held};
 ghost use Rattle.playing.specs.Often.{ran_often};
 
 use machine::Machine;
+use std::fs;
 use std::rt::Files;
-use std::{fs, str};
 
-// A file, opened to be read; where it cannot be opened, and a name that is not text names none, this is told on standard error.
-pub fn open_file<R: Files + Eprint>(rt: &R, file: &[u8]) -> Option<R::File> {
-    let Ok(name) = str::from_utf8(file) else {
-        let _ = eprintln!(rt; "{file:?}: no name of a file");
-        return None;
-    };
-    match fs::open(rt, name) {
+// A file, opened to be read; where it cannot be opened, this is told on standard error.
+pub fn open_file<R: Files + Eprint>(rt: &R, file: &str) -> Option<R::File> {
+    match fs::open(rt, file) {
         Ok(opened) => Some(opened),
         Err(e) => {
-            let _ = eprintln!(rt; "{name}: {e}");
+            let _ = eprintln!(rt; "{file}: {e}");
             None
         }
     }
 }
 
 // The bytes of a file, as many as the buffer holds, if it can be opened. Of what they are no contract can speak.
-pub fn load<'a, R: Files + Eprint>(rt: &R, file: &[u8], buf: &'a mut [u8]) -> Option<&'a [u8]>
+pub fn load<'a, R: Files + Eprint>(rt: &R, file: &str, buf: &'a mut [u8]) -> Option<&'a [u8]>
     ensures { IfSome result (λ trace. length trace.now ≤ length buf.old) }
 {
     let mut opened = open_file(rt, file)?;
@@ -41,7 +37,7 @@ pub fn run_often(machine: &mut Machine, trace: &[u8], times: u32)
 }
 
 // The trace of a file, so many times: of what is read no contract can speak.
-pub fn play_often<R: Files + Eprint>(rt: &R, machine: &mut Machine, file: &[u8], times: u32) {
+pub fn play_often<R: Files + Eprint>(rt: &R, machine: &mut Machine, file: &str, times: u32) {
     let mut buf = io::large_buffer();
     if let Some(trace) = load(rt, file, &mut buf) {
         run_often(machine, trace, times);
@@ -49,7 +45,7 @@ pub fn play_often<R: Files + Eprint>(rt: &R, machine: &mut Machine, file: &[u8],
 }
 
 // The trace of a file from power-up.
-pub fn begin<R: Files + Eprint>(rt: &R, file: &[u8]) -> Machine {
+pub fn begin<R: Files + Eprint>(rt: &R, file: &str) -> Machine {
     let mut machine = Machine::new();
     play_often(rt, &mut machine, file, 1);
     machine
