@@ -32,12 +32,12 @@ pub struct Gate {
     pub output: bool,
 }
 
-impl GateState {
-    // The Manual's ID of a state.
-    fn number(self) -> u16
-        ensures { result ≡ state_number self }
-    {
-        self as u16
+// The Manual's ID of a state.
+impl From<GateState> for u16 {
+    ghost from_gives = { λ state number. number ≡ state_number state };
+
+    fn from(state: GateState) -> u16 {
+        state as u16
     }
 }
 
@@ -268,6 +268,6 @@ pub fn state_word(gates: &[Gate; 12], k: u16) -> u16
 {
     words::from_fields(4, 4, |i| {
         let g = 4 * usize::from(k) + i;
-        if g < 12 { gates[g].state.number() } else { 0 }
+        if g < 12 { u16::from(gates[g].state) } else { 0 }
     })
 }

@@ -1,4 +1,4 @@
-// Signed numbers of 32 bits in two words: what the crates above count with; and what numbers in two's complement hold at every width.
+// The signed number of 32 bits that two words hold, and the laws of numbers in two's complement at every width.
 #![tactic(auto)]
 
 mod signed;

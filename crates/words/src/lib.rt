@@ -6,5 +6,5 @@ mod made;
 mod selection;
 
 pub use field::{Field, bit, halves, nibble, put_nibble};
-pub use made::{from_bits, from_fields};
+pub use made::{flags_word, from_bits, from_fields};
 pub use selection::{DOWN, GATE, Selection, UP};

@@ -1,5 +1,5 @@
 // Words put together from parts.
-ghost use Rattle.std.specs.Prelude.{◌≡◌, ℕ, Bool, ◌*◌, ◌^◌, ◌≤◌, ◌<◌};
+ghost use Rattle.std.specs.Prelude.{◌≡◌, ℕ, Bool, false, ◌+◌, ◌*◌, ◌^◌, ◌≤◌, ◌<◌, get_or};
 ghost use Rattle.words.specs.Word.{bit_of, fields as word_fields, pack as word_pack};
 
 // The word of n fields of `width` bits, the first lowest: field i is part(i).
@@ -31,4 +31,15 @@ pub fn from_bits<F: Fn(usize) -> bool>(n: usize, test: F) -> u16
             ensures { (b : Bool) × F.post test i b × (result ≡ bit_of b) }
         { u16::from(test(i)) },
     )
+}
+
+// Word k of a block of flags, one of each element: those of elements 16 k on, the lowest in bit 0; past the last element 0.
+pub fn flags_word<T: Copy, F: Fn(T) -> bool>(xs: &[T], k: u16, flag: F) -> u16
+    requires { F.IsAlwaysCallable flag }
+    ensures { (f : T → Bool) (d : T) → ((x : T) (b : Bool) → F.post flag x b → b ≡ f x) → f d ≡ false → result ≡ word_pack 16 (λ b. f (get_or xs.now (16 * k + b) d)) }
+{
+    from_bits(16, |b| {
+        let n = 16 * usize::from(k) + b;
+        n < xs.len() && flag(xs[n])
+    })
 }
