@@ -134,7 +134,8 @@ pub fn load_into(
     };
     let number = usize::from(next);
     if number < 128 && request.group == group_at(groups, number) {
+        let dataset = usize::from(request.dataset);
         let n = CounterNumber { number };
-        counters[number] = memory::load(mem, request.dataset, n, counters[number]);
+        counters[number] = memory::load(mem, dataset, n, counters[number]);
     }
 }

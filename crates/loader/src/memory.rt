@@ -16,15 +16,13 @@ pub struct Dataset {
 
 impl Dataset {
     // The dataset of a number, and none where it is above 31.
-    pub fn new(number: u16) -> Option<Dataset>
+    pub fn new(number: usize) -> Option<Dataset>
         ensures { MatchOption result (is_beyond number ≡ true) (λ d. (is_beyond number ≡ false) × (d.number ≡ number)) }
     {
         if 31 < number {
             return None;
         }
-        Some(Dataset {
-            number: number.into(),
-        })
+        Some(Dataset { number })
     }
 
     // Where its part of the memory stands.
@@ -57,7 +55,7 @@ fn load_from(part: &[u16], n: CounterNumber, c: Counter) -> Counter
 }
 
 // A counter with the thresholds of counter n in a dataset; there are 32, and any other reads 0.
-pub fn load(mem: &[u16; 16384], dataset: u16, n: CounterNumber, c: Counter) -> Counter
+pub fn load(mem: &[u16; 16384], dataset: usize, n: CounterNumber, c: Counter) -> Counter
     ensures { result ≡ loaded mem.now (place_of dataset n.number) c }
 {
     let Some(dataset) = Dataset::new(dataset) else {

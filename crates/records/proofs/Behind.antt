@@ -16,7 +16,7 @@ use Rattle.bools.proofs.Tests.{cases}
 use Rattle.records.specs.declared.Cause.TheVariants.{WrongLength}
 use Rattle.records.specs.declared.kind.Kind.{Kind}
 use Rattle.records.specs.declared.kind.Kind.TheVariants.{Ticks, Write, Tag}
-use Rattle.records.specs.Kinds.{read_of, tag_of}
+use Rattle.records.specs.Kinds.{payload_read, kind_tag}
 use Rattle.records.specs.Records.{is_known, length_at, number_at, levels_at, payload_at, payload_bytes, record_at, ticks_at}
 
 module _ (t : List ℕ) (at : ℕ) where
@@ -35,7 +35,7 @@ module _ (t : List ℕ) (at : ℕ) where
       let l : length (drop at t) - 0 ≡ length t - at = rw (length-drop at t) (omega arith) in
       rw (l, get_or-drop at t 0 0, add-zero at) (simp (number_behind, payload_behind, zero-add))
 
-known : (kind : Kind) → is_known (tag_of kind) ≡ true
+known : (kind : Kind) → is_known (kind_tag kind) ≡ true
 known Ticks = refl
 known Write = refl
 known Tag = refl
@@ -45,17 +45,17 @@ cut : (l n : ℕ) → 3 ≤ l → ltb (l - 3) n ≡ ltb (l - 0) (3 + n)
 cut l n h = grind (arith, nat_tests)
 
 -- behind a whole header of a known kind its length is looked at, and then the payload is read
-header_first : (kind : Kind) (t : List ℕ) → 3 ≤ length t → get_or t 0 0 ≡ tag_of kind →
-    pick (eqb (get_or t 1 0 * 256 + get_or t 2 0) (payload_bytes (tag_of kind))) (read_of kind (take (length t - 3) (drop 3 t))) (Err WrongLength) ≡ record_at t 0
+header_first : (kind : Kind) (t : List ℕ) → 3 ≤ length t → get_or t 0 0 ≡ kind_tag kind →
+    pick (eqb (get_or t 1 0 * 256 + get_or t 2 0) (payload_bytes (kind_tag kind))) (payload_read kind (take (length t - 3) (drop 3 t))) (Err WrongLength) ≡ record_at t 0
 unfolding record_at number_at
 header_first kind t h e =
     let size : ℕ = get_or t 1 0 * 256 + get_or t 2 0 in
     let z : length_at t 0 ≡ size = omega arith in
-    rw (e, z, take_rest t 3, length-drop 3 t, payload_behind t 3 (tag_of kind) 0, known kind, ne_eqb (length t - 0) 0 (λ z. omega (arith, z)), le-ltb (length t - 0) 3 (omega arith))
-    (cases (eqb size (payload_bytes (tag_of kind)))
-    (λ y. rw (y, eqb-true _ _ y, cut (length t) (payload_bytes (tag_of kind)) h))
+    rw (e, z, take_rest t 3, length-drop 3 t, payload_behind t 3 (kind_tag kind) 0, known kind, ne_eqb (length t - 0) 0 (λ z. omega (arith, z)), le-ltb (length t - 0) 3 (omega arith))
+    (cases (eqb size (payload_bytes (kind_tag kind)))
+    (λ y. rw (y, eqb-true _ _ y, cut (length t) (payload_bytes (kind_tag kind)) h))
     (λ n. rw n))
 
-pub header_read : (kind : Kind) (t : List ℕ) (at : ℕ) {rest : List ℕ} → rest ≡ take (length t - at) (drop at t) → 3 ≤ length rest → get_or rest 0 0 ≡ tag_of kind →
-    pick (eqb (get_or rest 1 0 * 256 + get_or rest 2 0) (payload_bytes (tag_of kind))) (read_of kind (take (length rest - 3) (drop 3 rest))) (Err WrongLength) ≡ record_at t at
+pub header_read : (kind : Kind) (t : List ℕ) (at : ℕ) {rest : List ℕ} → rest ≡ take (length t - at) (drop at t) → 3 ≤ length rest → get_or rest 0 0 ≡ kind_tag kind →
+    pick (eqb (get_or rest 1 0 * 256 + get_or rest 2 0) (payload_bytes (kind_tag kind))) (payload_read kind (take (length rest - 3) (drop 3 rest))) (Err WrongLength) ≡ record_at t at
 header_read kind t at {rest} r h e = header_first kind rest h e ∙ rw (r, take_rest t at) (record_behind t at)

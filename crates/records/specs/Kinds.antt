@@ -9,10 +9,10 @@ use Rattle.records.specs.declared.kind.Kind.TheVariants.{Ticks, Write, Tag}
 use Rattle.records.specs.Records.{Found, payload_at, payload_bytes}
 
 -- its tag byte
-abbrev pub tag_of : Kind → ℕ
-tag_of Ticks = 1
-tag_of Write = 2
-tag_of Tag = 3
+abbrev pub kind_tag : Kind → ℕ
+kind_tag Ticks = 1
+kind_tag Write = 2
+kind_tag Tag = 3
 
 -- a record that is there
 abbrev pub found : Result Record Cause → Found
@@ -20,5 +20,5 @@ found (Ok x) = Ok (Some x)
 found (Err cause) = Err cause
 
 -- a payload that may be cut
-abbrev pub read_of : Kind → List ℕ → Found
-read_of kind t = pick (ltb (length t) (payload_bytes (tag_of kind))) (Err Cut) (payload_at (tag_of kind) t 0)
+abbrev pub payload_read : Kind → List ℕ → Found
+payload_read kind t = pick (ltb (length t) (payload_bytes (kind_tag kind))) (Err Cut) (payload_at (kind_tag kind) t 0)

@@ -1,6 +1,6 @@
 // The kinds of records, told by the tag byte.
 ghost use Rattle.std.specs.Prelude.{◌≡◌, MatchResult, false};
-ghost use Rattle.records.specs.Kinds.{found, read_of, tag_of};
+ghost use Rattle.records.specs.Kinds.{found, payload_read, kind_tag};
 ghost use Rattle.records.specs.Records.{is_known, payload_at, payload_bytes};
 ghost use Rattle.records.specs.declared.Cause.TheVariants.{UnknownTag};
 
@@ -17,7 +17,7 @@ pub enum Kind {
 impl TryFrom<u8> for Kind {
     type Error = Cause;
 
-    ghost try_from_gives = { λ tag answer. MatchResult answer (λ kind. tag ≡ tag_of kind) (λ cause. (is_known tag ≡ false) × (cause ≡ UnknownTag)) };
+    ghost try_from_gives = { λ tag answer. MatchResult answer (λ kind. tag ≡ kind_tag kind) (λ cause. (is_known tag ≡ false) × (cause ≡ UnknownTag)) };
 
     fn try_from(tag: u8) -> Result<Kind, Cause> {
         match tag {
@@ -32,7 +32,7 @@ impl TryFrom<u8> for Kind {
 impl Kind {
     // The length of its payload in bytes.
     pub fn payload_bytes(self) -> u16
-        ensures { result ≡ payload_bytes (tag_of self) }
+        ensures { result ≡ payload_bytes (kind_tag self) }
     {
         match self {
             Kind::Ticks => 11,
@@ -43,7 +43,7 @@ impl Kind {
     // The record of its payload, which may be cut: numbers are of so many bytes, high byte first.
     #[tactic(auto, unfolding(crate::specs::Records::payload_at, crate::specs::Records::ticks_at, crate::specs::Records::levels_at, crate::specs::Records::number_at))]
     pub fn read(self, payload: &[u8]) -> Result<Record, Cause>
-        ensures { found result ≡ read_of self payload.now }
+        ensures { found result ≡ payload_read self payload.now }
     {
         match (self, payload) {
             (Kind::Ticks, [r1, r0, i6, i5, i4, i3, i2, i1, i0, g1, g0, ..]) => {

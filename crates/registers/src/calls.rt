@@ -88,7 +88,7 @@ pub fn download(state: &Crate, mem: &mut [u16], dataset: u16, words: &[u16]) -> 
 {
     let mem = mem.as_mut_array().ok_or(Refusal::Memory)?;
     let words = words.as_array().ok_or(Refusal::Length)?;
-    let dataset = Dataset::new(dataset).ok_or(Refusal::Dataset)?;
+    let dataset = Dataset::new(dataset.into()).ok_or(Refusal::Dataset)?;
     loader::download(mem, dataset, words);
     Ok(())
 }

@@ -17,7 +17,7 @@ use loader::{Dataset, Request};
 pub fn request(cm: &mut Common, request: Request) -> Result<(), Refusal>
     ensures { (result ≡ request_answer cm.old.queue request.dataset) × (cm.new ≡ pick (is_done (request_answer cm.old.queue request.dataset)) (with_queue cm.old (pushed cm.old.queue request)) cm.old) }
 {
-    Dataset::new(request.dataset).ok_or(Refusal::Dataset)?;
+    Dataset::new(request.dataset.into()).ok_or(Refusal::Dataset)?;
     if cm.queue.is_full() {
         return Err(Refusal::Full);
     }
