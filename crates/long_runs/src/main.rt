@@ -14,8 +14,13 @@ fn record(repeat: u16) -> [u8; 14] {
 
 // So many records of 65,535 ticks, and one of another number.
 fn ticks(machine: &mut Machine, records: u32, more: u16) {
-    run_often(machine, &record(65535), records);
-    run_often(machine, &record(more), 1);
+    run_often(
+        &mut machine.state,
+        &mut machine.mem,
+        &record(65535),
+        records,
+    );
+    run_often(&mut machine.state, &mut machine.mem, &record(more), 1);
 }
 
 // Two registers as one number, the second first.
@@ -26,13 +31,13 @@ fn put_pair(page: Page, machine: &Machine, address: u16) -> Page {
 }
 
 // The counts of counters 0 and 1 in a line.
-fn tell_counts(rt: &impl Print, machine: &Machine, name: &str) {
+fn tell_counts(rt: &impl Print, machine: &Machine, name: &[u8]) {
     let up = put_pair(Page::new().put_text(name), machine, 0x1200);
     write(rt, put_pair(up, machine, 0x1202).put(b'\n'));
 }
 
 // The errors of the last six watchdogs in a line.
-fn tell_errors(rt: &impl Print, machine: &Machine, name: &str) {
+fn tell_errors(rt: &impl Print, machine: &Machine, name: &[u8]) {
     let page = Page::new().put_text(name);
     write(
         rt,
@@ -43,34 +48,40 @@ fn tell_errors(rt: &impl Print, machine: &Machine, name: &str) {
 
 // The raw count of input 53 after 65,538 rises while RESET is set.
 fn raw_rises(rt: &(impl Files + Print + Eprint)) {
-    let mut machine = playing::begin(rt, "reset");
-    play_often(rt, &mut machine, "pulse_53", 65538);
-    let name = Page::new().put_text("raw count after 65538 rises under RESET:");
+    let mut machine = playing::begin(rt, b"reset");
+    play_often(rt, &mut machine.state, &mut machine.mem, b"pulse_53", 65538);
+    let name = Page::new().put_text(b"raw count after 65538 rises under RESET:");
     write(rt, put_pair(name, &machine, 0x136A).put(b'\n'));
 }
 
 // Counter 0 counts a test signal up and counter 1 down, one rise in five ticks: 2,147,483,647 rises, and two more.
 fn wraps(rt: &(impl Files + Print + Eprint)) {
-    let mut machine = playing::begin(rt, "both_ways");
+    let mut machine = playing::begin(rt, b"both_ways");
     ticks(&mut machine, 163842, 32765);
-    tell_counts(rt, &machine, "counts after 2147483647 rises, up and down:");
+    tell_counts(rt, &machine, b"counts after 2147483647 rises, up and down:");
     ticks(&mut machine, 0, 5);
-    tell_counts(rt, &machine, "counts after one more:");
+    tell_counts(rt, &machine, b"counts after one more:");
     ticks(&mut machine, 0, 5);
-    tell_counts(rt, &machine, "counts after another:");
+    tell_counts(rt, &machine, b"counts after another:");
 }
 
 // With the timeout of power-up, 65,535, the error comes at the top, 8,388,480; the value stays there.
 fn watchdog_top(rt: &(impl Files + Print + Eprint)) {
-    let mut machine = playing::begin(rt, "last_watchdogs_reset");
+    let mut machine = playing::begin(rt, b"last_watchdogs_reset");
     ticks(&mut machine, 127, 65534);
-    tell_errors(rt, &machine, "watchdogs after 8388479 ticks: ");
+    tell_errors(rt, &machine, b"watchdogs after 8388479 ticks: ");
     ticks(&mut machine, 0, 1);
-    tell_errors(rt, &machine, "watchdogs after 8388480 ticks: ");
-    play_often(rt, &mut machine, "last_watchdogs_reset", 1);
-    tell_errors(rt, &machine, "watchdogs after a reset: ");
+    tell_errors(rt, &machine, b"watchdogs after 8388480 ticks: ");
+    play_often(
+        rt,
+        &mut machine.state,
+        &mut machine.mem,
+        b"last_watchdogs_reset",
+        1,
+    );
+    tell_errors(rt, &machine, b"watchdogs after a reset: ");
     ticks(&mut machine, 32768, 32768);
-    tell_errors(rt, &machine, "watchdogs after 2147483648 ticks more: ");
+    tell_errors(rt, &machine, b"watchdogs after 2147483648 ticks more: ");
 }
 
 fn main(rt: HostRuntime) {

@@ -11,7 +11,7 @@ impl Page {
     pub fn put_decimal(self, n: u64) -> Page
         ensures { written result ≡ cut (written self ++ printed_decimal n) }
     {
-        self.put_text(itoa::Buffer::new().format(n))
+        self.put_text(itoa::Buffer::new().format(n).as_bytes())
     }
 
     // The last `places` hexadecimal digits of n. By hand: what `{:x}` writes is promised only where `write!` succeeds, and this cannot fail.

@@ -35,12 +35,12 @@ impl Page {
         self
     }
 
-    // A text put behind what is written.
+    // A text put behind what is written: of any bytes, where a `&str` would ask more of callers.
     #[tactic(auto, using(crate::proofs::Pages::take_room), unfolding(crate::specs::Page::written))]
-    pub fn put_text(mut self, text: &str) -> Page
+    pub fn put_text(mut self, text: &[u8]) -> Page
         ensures { written result ≡ cut (written self ++ text.now) }
     {
-        let _fits = self.text.write(text.as_bytes());
+        let _fits = self.text.write(text);
         self
     }
 

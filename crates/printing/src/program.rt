@@ -1,37 +1,40 @@
 // What the program prints: the four lines, and the run that they tell of.
 ghost use Rattle.std.specs.Prelude.{◌≡◌, ◌++◌, ◌+◌, ◌<◌, codes};
-ghost use Rattle.machine.specs.Held.{held};
+ghost use Rattle.device.specs.State.{machine};
 ghost use Rattle.pages.specs.Page.{written, cut};
 ghost use Rattle.printing.specs.Printed.{words_from, program_prints};
 ghost use Rattle.printing.specs.Printed.{printed as printed_printed};
 
 use crate::report::put_report;
+use device::Crate;
 use machine::Machine;
 use pages::Page;
 use trace::Report;
 
 // A line of the eight words from an address on, behind its name.
 #[tactic(auto, using(crate::proofs::Places::words_more, crate::proofs::Places::no_words, pages::proofs::Pages::cut_two, pages::proofs::Pages::cut_cut))]
-fn put_block(page: Page, name: &str, machine: &Machine, address: u16) -> Page
+fn put_block(page: Page, name: &[u8], state: &Crate, mem: &[u16], address: u16) -> Page
     requires { address + 8 < 65536 }
-    ensures { written result ≡ cut (written page ++ (name.now ++ (words_from (held machine.now) 8 address ++ codes "\n"))) }
+    ensures { written result ≡ cut (written page ++ (name.now ++ (words_from (machine state.now mem.now) 8 address ++ codes "\n"))) }
 {
     let mut line = page.put_text(name);
     for a in address..address + 8 {
-        line = line.put(b' ').put_hexadecimal(4, machine.word(a).into());
+        let word = registers::read(state, mem, a).unwrap_or(0);
+        line = line.put(b' ').put_hexadecimal(4, word.into());
     }
     line.put(b'\n')
 }
 
-// The report, both overflow blocks and the outputs.
-pub fn printed(report: Report, machine: &Machine) -> Page
-    ensures { written result ≡ printed_printed report (held machine.now) }
+// The report, both overflow blocks and the outputs. Crate and memory apart, as the calls take them: a `Machine` would ask for a memory of the right length.
+pub fn printed(report: Report, state: &Crate, mem: &[u16]) -> Page
+    ensures { written result ≡ printed_printed report (machine state.now mem.now) }
 {
     let mut page = put_report(Page::new(), report);
-    page = put_block(page, "NEG", machine, 0x0700);
-    page = put_block(page, "POS", machine, 0x0708);
-    page.put_text("OUT ")
-        .put_hexadecimal(2, machine.word(0x0719).into())
+    page = put_block(page, b"NEG", state, mem, 0x0700);
+    page = put_block(page, b"POS", state, mem, 0x0708);
+    let outputs = registers::read(state, mem, 0x0719).unwrap_or(0);
+    page.put_text(b"OUT ")
+        .put_hexadecimal(2, outputs.into())
         .put(b'\n')
 }
 
@@ -42,5 +45,5 @@ pub fn rehearse(input: &[u8]) -> Page
     let trace = &input[..input.len().min(65_536)];
     let mut machine = Machine::new();
     let report = machine.run(trace, 1_000_000);
-    printed(report, &machine)
+    printed(report, &machine.state, &machine.mem)
 }

@@ -13,8 +13,8 @@ fn put_stop(page: Page, stop: Stop) -> Page
     ensures { written result ≡ cut (written page ++ stop_text stop) }
 {
     match stop {
-        Stop::End => page.put_text("END"),
-        Stop::Spent => page.put_text("SPENT"),
+        Stop::End => page.put_text(b"END"),
+        Stop::Spent => page.put_text(b"SPENT"),
         Stop::Refused(cause) => page.put_decimal(u16::from(cause).into()),
     }
 }
@@ -24,14 +24,14 @@ fn put_stop(page: Page, stop: Stop) -> Page
 pub fn put_report(page: Page, report: Report) -> Page
     ensures { written result ≡ cut (written page ++ report_line report) }
 {
-    put_stop(page.put_text("STOP "), report.stop)
-        .put_text(" NEXT ")
+    put_stop(page.put_text(b"STOP "), report.stop)
+        .put_text(b" NEXT ")
         .put_decimal(report.next as u64)
-        .put_text(" TICKS ")
+        .put_text(b" TICKS ")
         .put_decimal(report.ticks)
-        .put_text(" RECORDS ")
+        .put_text(b" RECORDS ")
         .put_decimal(report.records as u64)
-        .put_text(" REFUSED ")
+        .put_text(b" REFUSED ")
         .put_decimal(report.refused as u64)
         .put(b'\n')
 }

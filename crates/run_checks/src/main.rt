@@ -9,8 +9,8 @@ use std::rt::Files;
 
 // A register after the trace of a file: its word is printed in a line behind what it shows.
 struct Check {
-    shows: &'static str,
-    file: &'static str,
+    shows: &'static [u8],
+    file: &'static [u8],
     address: u16,
 }
 
@@ -25,23 +25,23 @@ impl Check {
 // Watchdog errors of inputs 0 to 15, and states of gates 0 to 3.
 const TIMEOUTS: [Check; 4] = [
     Check {
-        shows: "watchdogs, rises 128 apart: ",
-        file: "rises_128_apart",
+        shows: b"watchdogs, rises 128 apart: ",
+        file: b"rises_128_apart",
         address: 0x0711,
     },
     Check {
-        shows: "watchdogs, rises 129 apart: ",
-        file: "rises_129_apart",
+        shows: b"watchdogs, rises 129 apart: ",
+        file: b"rises_129_apart",
         address: 0x0711,
     },
     Check {
-        shows: "gates, 16383 low ticks: ",
-        file: "low_16383",
+        shows: b"gates, 16383 low ticks: ",
+        file: b"low_16383",
         address: 0x071A,
     },
     Check {
-        shows: "gates, 16384 low ticks: ",
-        file: "low_16384",
+        shows: b"gates, 16384 low ticks: ",
+        file: b"low_16384",
         address: 0x071A,
     },
 ];
@@ -49,13 +49,13 @@ const TIMEOUTS: [Check; 4] = [
 // The low words of the positive thresholds of counters 0 and 127.
 const RELOAD: [Check; 2] = [
     Check {
-        shows: "written during a reload, counter 0: ",
-        file: "written_during_reload",
+        shows: b"written during a reload, counter 0: ",
+        file: b"written_during_reload",
         address: 0x1800,
     },
     Check {
-        shows: "written during a reload, counter 127: ",
-        file: "written_during_reload",
+        shows: b"written during a reload, counter 127: ",
+        file: b"written_during_reload",
         address: 0x19FC,
     },
 ];
@@ -63,18 +63,18 @@ const RELOAD: [Check; 2] = [
 // The count of counter 0, and the state of its gate.
 const AUTORESET: [Check; 3] = [
     Check {
-        shows: "AUTORESET, gate opened twice, count: ",
-        file: "gate_reopened",
+        shows: b"AUTORESET, gate opened twice, count: ",
+        file: b"gate_reopened",
         address: 0x1200,
     },
     Check {
-        shows: "AUTORESET, gate in ERROR, count: ",
-        file: "gate_in_error",
+        shows: b"AUTORESET, gate in ERROR, count: ",
+        file: b"gate_in_error",
         address: 0x1200,
     },
     Check {
-        shows: "AUTORESET, gate in ERROR, gates: ",
-        file: "gate_in_error",
+        shows: b"AUTORESET, gate in ERROR, gates: ",
+        file: b"gate_in_error",
         address: 0x071A,
     },
 ];
@@ -82,7 +82,7 @@ const AUTORESET: [Check; 3] = [
 // 01's example, as the program prints it.
 fn example(rt: &(impl Files + Print + Eprint)) {
     let mut buf = io::large_buffer();
-    let trace = playing::load(rt, "example", &mut buf).unwrap_or(&[]);
+    let trace = playing::load(rt, b"example", &mut buf).unwrap_or(&[]);
     write(rt, printing::rehearse(trace));
 }
 
@@ -107,7 +107,7 @@ fn first_rise(signal: u16) -> Option<u64> {
 
 // The first rises of the nine test signals, 0 where there is none.
 fn first_rises(rt: &impl Print) {
-    let mut line = Page::new().put_text("first rises of test signals 55 to 63:");
+    let mut line = Page::new().put_text(b"first rises of test signals 55 to 63:");
     for signal in 55..64 {
         line = line.put(b' ').put_decimal(first_rise(signal).unwrap_or(0));
     }

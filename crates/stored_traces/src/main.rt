@@ -30,7 +30,7 @@ fn digest(machine: &Machine) -> u32 {
 fn run(rt: &impl Print, stored: Stored<'_>) {
     let mut machine = Machine::new();
     let report = machine.run(stored.trace, stored.budget);
-    let told = printing::put_report(Page::new(), report).put_text("DIGEST ");
+    let told = printing::put_report(Page::new(), report).put_text(b"DIGEST ");
     let d = digest(&machine);
     write(rt, told.put_hexadecimal(8, d.into()).put(b'\n'));
 }
@@ -51,7 +51,7 @@ fn next_trace<'a, F: Read>(file: &mut F, buf: &'a mut [u8; 65536]) -> Option<Sto
 
 // All traces of the file.
 fn main(rt: HostRuntime) {
-    let Some(mut file) = playing::open_file(&rt, "traces") else {
+    let Some(mut file) = playing::open_file(&rt, b"traces") else {
         return;
     };
     let mut buf = io::large_buffer();
