@@ -11,7 +11,7 @@ use lib.Dec.{eqb, ltb, lit≤}
 use lib.ListN.{length}
 use mir.Val.{bool_byte}
 use Rattle.words.specs.Word.{bit_of}
-use Rattle.core.specs.Bool.{then_some}
+use Rattle.std.specs.Bool.{then_some}
 use Rattle.std.specs.Prelude.{Option, is_none, is_ok, is_some, unwrap_or}
 use Rattle.std.proofs.Common.{Some, None, Ok, Err}
 use Rattle.bools.proofs.Tests.{cases, pick_elim}
