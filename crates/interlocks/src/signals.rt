@@ -6,7 +6,7 @@ use counters::Counter;
 use device::{Crate, Rest};
 use gates::Gate;
 
-// The gates whose input was low at the last accepted tick; all at power-up.
+// The gates whose input was low at the last accepted tick; all at power-up. By ^, as in `lines::rises`.
 fn low_gates(rest: &Rest) -> u16
     ensures { result ≡ low_gates rest.now }
 {
