@@ -14,7 +14,7 @@ impl Page {
         self.put_text(itoa::Buffer::new().format(n).as_bytes())
     }
 
-    // The last `places` hexadecimal digits of n. By hand: what `{:x}` writes is promised only where `write!` succeeds, and this cannot fail.
+    // The last `places` hexadecimal digits of n. By hand: what `{:x}` writes is promised only where `write!` succeeds, and nothing promises that on a page.
     #[tactic(auto, using(crate::proofs::Places::no_digits, crate::proofs::Places::one_more_digit))]
     pub fn put_hexadecimal(self, places: usize, n: u64) -> Page
         ensures { written result ≡ cut (written self ++ printed_hexadecimal places n) }

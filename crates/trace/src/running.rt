@@ -51,8 +51,8 @@ fn tick_on(state: &mut Crate, mem: &[u16; 16384], n: u64, levels: Levels)
 }
 
 // A run on its way: the trace, the budget of ticks, and the report so far, in which END stands until something else stops the run.
-// Crate and memory stay beside it: they are the caller's, lent on to each call as `registers` takes them, and there is a report to give before the
-// memory is known to be whole.
+// Crate and memory stay beside it: they are the caller's and lent on to each call; held as `&mut` in here they would be lent again at every call,
+// which is no plainer.
 #[derive(Drop)]
 struct Running<'a> {
     trace: &'a [u8],
