@@ -1,6 +1,6 @@
 -- The numbers of document 01, section by section, in rows that fail where a number is wrong by one, also where definition and code are wrong
 -- alike: what is expected is written by hand from the paper, what a definition computes stands beside it. docs/TRACEABILITY.md, "Numbers of
--- document 01", names the row of each number; where `worked` or `bench` has one, it is not written again.
+-- document 01", names the row of each number; where `worked` or `starred_cases` has one, it is not written again.
 use Prim.Native.Nat.{ℕ, zero, suc, ◌+◌, ◌-◌, ◌*◌, ◌^◌}
 use mathlib.Core.List.{List, [], ◌∷◌, ◌++◌}
 use lib.Dec.{eqb, ltb}
@@ -66,7 +66,7 @@ signal_rows =
     ∷ row 1 (rises_after 62 6)
     ∷ row 0 (rises_after 63 4)
     ∷ row 1 (rises_after 63 5)
-    -- so they are tick by tick, where `worked` and `bench` have no row
+    -- so they are tick by tick, where `worked` and `starred_cases` have no row
     ∷ row 0 (reads (counting 60 ++ often 12 (tick 0 1)) 0x1200)
     ∷ row 0 (reads (counting 61 ++ often 12 (tick 0 1)) 0x1200)
     -- 125,000 ticks are a millisecond: f kHz rise f times, the last time at its last tick. Ground never

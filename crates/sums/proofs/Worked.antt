@@ -1,4 +1,4 @@
--- Worked cases of sliding sums, written out by hand from document 02, CR 4; those of the longest windows are in bench/proofs/Sums.antt.
+-- Worked cases of sliding sums, written out by hand from document 02, CR 4; those of the longest windows are in starred_cases/proofs/Sums.antt.
 use Rattle.std.proofs.Common.{◌≡◌, ℕ, ◌-◌, List, [], ◌∷◌, ℤ, pos, negsuc, refl, ap, ◌∙◌, arith, Ok, Err}
 use lib.Signed.{mag}
 use Rattle.sums.specs.Fed.{Slid, Went, begin, fed, feed}

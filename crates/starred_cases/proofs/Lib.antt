@@ -1,3 +1,3 @@
-pub mod Bench
+pub mod Cases
 pub mod Computing
 pub mod Sums

@@ -5,10 +5,10 @@ use mathlib.Core.Path.{◌≡◌, refl}
 use lib.ListN.{length, get_or}
 use Rattle.lists.specs.Checks.{row, right}
 use Rattle.lists.proofs.Rows.{row_right}
-use Rattle.bench.proofs.Computing.{computing}
+use Rattle.starred_cases.proofs.Computing.{computing}
 use Rattle.printing.specs.Printed.{program_prints}
-use Rattle.bench.specs.Example.{example, example_text}
-use Rattle.bench.specs.Starred.{starred}
+use Rattle.starred_cases.specs.Example.{example, example_text}
+use Rattle.starred_cases.specs.Starred.{starred}
 
 starred_right : right starred ≡ true
 unfolding computing starred
