@@ -3,7 +3,7 @@ ghost use Rattle.std.specs.Prelude.{◌≡◌, ◌^◌, ◌<◌, get_or};
 ghost use Rattle.std.specs.Int.Signed.{mag};
 ghost use Rattle.counters.specs.Leap.{Ranged, count_after, counter_after, leap_counters};
 
-use crate::counter::Counter;
+use crate::counter::{COUNTERS, Counter};
 
 // What a stretch of ticks brings to all counters: register 0x0801, the rises of each selection value, and the gate outputs.
 #[derive(Drop)]
@@ -42,7 +42,7 @@ fn counter_after(mut c: Counter, stretch: &Stretch) -> Counter
 
 // All counters. Their counts were of 32 bits.
 #[tactic(auto, unfolding(crate::specs::Leap::leap_counters))]
-pub fn leap_counters(counters: &mut [Counter; 128], stretch: &Stretch)
+pub fn leap_counters(counters: &mut [Counter; COUNTERS], stretch: &Stretch)
     ensures { (counters.new ≡ leap_counters stretch.now.control (λ u. get_or stretch.now.rises u 0) stretch.now.is counters.old) × Ranged counters.old 128 }
 {
     lists::step_each(counters, |_, c| counter_after(c, stretch));

@@ -4,6 +4,7 @@ ghost use Rattle.gate_leaps.specs.Leap.{gate_after, leap_gates, steady_gates};
 ghost use Rattle.gate_leaps.specs.Leap.{horizon as leap_horizon, settled as leap_settled, sooner as leap_sooner, stays as leap_stays, steady as leap_steady};
 
 use gates::{Gate, GateState, output_of};
+use lines::GATES;
 
 // A stretch as a gate sees it: so many ticks at the level of its input.
 #[derive(Clone, Copy)]
@@ -25,7 +26,7 @@ fn gate_after(mut g: Gate, k: u32) -> Gate
 
 // All gates, k ticks on.
 #[tactic(auto, unfolding(crate::specs::Leap::leap_gates))]
-pub fn leap_gates(gates: &mut [Gate; 12], k: u32)
+pub fn leap_gates(gates: &mut [Gate; GATES], k: u32)
     ensures { gates.new ≡ leap_gates k gates.old }
 {
     lists::step_each(gates, |_, g| gate_after(g, k));
@@ -65,7 +66,7 @@ impl Stay {
 }
 
 // Whether all gates stay for k ticks at these levels.
-pub fn steady_gates(gates: &[Gate; 12], k: u32, levels: u16) -> bool
+pub fn steady_gates(gates: &[Gate; GATES], k: u32, levels: u16) -> bool
     ensures { result ≡ steady_gates k levels gates.now }
 {
     gates.iter().enumerate().all(|(i, g)| {
@@ -88,7 +89,7 @@ fn sooner(g: Gate, k: u32) -> u32
 }
 
 // How many of k ticks the gates' timers allow.
-pub fn horizon(gates: &[Gate; 12], k: u32) -> u32
+pub fn horizon(gates: &[Gate; GATES], k: u32) -> u32
     ensures { result ≡ leap_horizon 12 gates.now k }
 {
     gates.iter().fold(k, |most, g| sooner(*g, most))

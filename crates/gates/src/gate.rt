@@ -2,6 +2,11 @@
 ghost use Rattle.std.specs.Prelude.{◌≡◌, Bool, ◌-◌, ◌<◌};
 ghost use Rattle.gates.specs.Gate.{state_number, from_idle, from_prepare, from_open, from_waiting, from_error, from_recover, from_direct, next_state, in_prepare, timer_of, output_of, gate_step, with_timeout, with_mode, with_prepare, with_recover, with_prepare_pulse, with_recover_pulse, each_gate, gate_bits, state_word, failed, prepare_signal, recover_signal};
 
+use lines::GATES;
+
+// The unit of a gate's timeout in ticks, 131,072 ns.
+const TIMEOUT_UNIT: u32 = 16384;
+
 // The states in the order of the Manual's IDs 0 to 6; Open is the Manual's GATE.
 #[derive(Clone, Copy, PartialEq, Eq, Default)]
 pub enum GateState {
@@ -173,7 +178,7 @@ impl Gate {
     {
         match (self.state, state) {
             (GateState::Prepare, GateState::Prepare) => self.timer.saturating_sub(1),
-            (_, GateState::Prepare) => 16384 * u32::from(self.timeout),
+            (_, GateState::Prepare) => TIMEOUT_UNIT * u32::from(self.timeout),
             _ => self.timer,
         }
     }
@@ -247,7 +252,7 @@ impl Gate {
 }
 
 // All gates after a change: gate i by bit i of a word.
-pub fn change_gates<F: Fn(Gate, bool) -> Gate>(gates: &mut [Gate; 12], w: u16, change: F)
+pub fn change_gates<F: Fn(Gate, bool) -> Gate>(gates: &mut [Gate; GATES], w: u16, change: F)
     requires { F.IsAlwaysCallable change }
     ensures { (f : Bool → Gate → Gate) → ((g : Gate) (b : Bool) (next : Gate) → F.post change g b next → next ≡ f b g) → gates.new ≡ each_gate f w gates.old }
 {
@@ -255,19 +260,23 @@ pub fn change_gates<F: Fn(Gate, bool) -> Gate>(gates: &mut [Gate; 12], w: u16, c
 }
 
 // A bit of each gate as a word, gate 0 lowest.
-pub fn gate_bits<F: Fn(Gate) -> bool>(gates: &[Gate; 12], bit: F) -> u16
+pub fn gate_bits<F: Fn(Gate) -> bool>(gates: &[Gate; GATES], bit: F) -> u16
     requires { F.IsAlwaysCallable bit }
     ensures { (f : Gate → Bool) → ((g : Gate) (b : Bool) → F.post bit g b → b ≡ f g) → result ≡ gate_bits f gates.now }
 {
-    words::from_bits(12, |i| bit(gates[i]))
+    words::from_bits(GATES, |i| bit(gates[i]))
 }
 
 // The states of gates 4 k to 4 k + 3, four bits each; past the last gate 0.
-pub fn state_word(gates: &[Gate; 12], k: u16) -> u16
+pub fn state_word(gates: &[Gate; GATES], k: u16) -> u16
     ensures { result ≡ state_word gates.now k }
 {
     words::from_fields(4, 4, |i| {
         let g = 4 * usize::from(k) + i;
-        if g < 12 { u16::from(gates[g].state) } else { 0 }
+        if g < GATES {
+            u16::from(gates[g].state)
+        } else {
+            0
+        }
     })
 }

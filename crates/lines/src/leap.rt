@@ -3,7 +3,7 @@ ghost use Rattle.std.specs.Prelude.{◌≡◌, ◌<◌};
 ghost use Rattle.lists.specs.Table.{tabulate};
 ghost use Rattle.lines.specs.Leap.{leap_phases, low_phases, phase_after, rises_in};
 
-use crate::lines::{LIMIT, Signal};
+use crate::lines::{LIMIT, SIGNALS, Signal};
 use std::array;
 
 impl Signal {
@@ -18,7 +18,7 @@ impl Signal {
 
 // All phases, k ticks on.
 #[tactic(auto, unfolding(crate::specs::Leap::leap_phases))]
-pub fn leap_phases(phases: &mut [u32; 9], k: u32)
+pub fn leap_phases(phases: &mut [u32; SIGNALS], k: u32)
     ensures { phases.new ≡ leap_phases k phases.old }
 {
     lists::step_each(
@@ -31,7 +31,7 @@ pub fn leap_phases(phases: &mut [u32; 9], k: u32)
 
 // The rises of selection value u in k ticks.
 #[tactic(auto, unfolding(crate::specs::Leap::rises_in))]
-fn rises_at(phases: &[u32; 9], k: u32, u: usize) -> u32
+fn rises_at(phases: &[u32; SIGNALS], k: u32, u: usize) -> u32
     requires { u < 64 }
     ensures { result ≡ rises_in k phases.now u }
 {
@@ -43,14 +43,14 @@ fn rises_at(phases: &[u32; 9], k: u32, u: usize) -> u32
 }
 
 // The rises of each selection value in k ticks in which no input rises.
-pub fn rises_in(phases: &[u32; 9], k: u32) -> [u32; 64]
+pub fn rises_in(phases: &[u32; SIGNALS], k: u32) -> [u32; 64]
     ensures { result ≡ tabulate 64 (rises_in k phases.now) }
 {
     array::from_fn(|u| rises_at(phases, k, u))
 }
 
 // Whether every phase is below 125,000.
-pub fn low_phases(phases: &[u32; 9]) -> bool
+pub fn low_phases(phases: &[u32; SIGNALS]) -> bool
     ensures { result ≡ low_phases phases.now }
 {
     phases.iter().all(|phase| u64::from(*phase) < LIMIT)

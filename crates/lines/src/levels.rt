@@ -1,6 +1,11 @@
-// The levels of a tick.
+// The lines, and their levels in a tick.
 ghost use Rattle.std.specs.Prelude.{◌≡◌};
 ghost use Rattle.lines.specs.Lines.{bad_levels};
+
+// The pulse inputs and the gate inputs.
+pub const INPUTS: usize = 54;
+
+pub const GATES: usize = 12;
 
 // Those of the inputs, input 0 in bit 0, and of the gates.
 #[derive(Clone, Copy)]
@@ -10,11 +15,11 @@ pub struct Levels {
 }
 
 impl Levels {
-    // A level on input 54 or above, or on gate 12 or above.
+    // A level on an input or a gate that does not exist.
     #[tactic(auto, unfolding(crate::specs::Lines::bad_levels))]
     pub fn are_bad(self) -> bool
         ensures { result ≡ bad_levels self.inputs self.gates }
     {
-        0x0040_0000_0000_0000 <= self.inputs || 0x1000 <= self.gates
+        1 << INPUTS <= self.inputs || 1 << GATES <= self.gates
     }
 }

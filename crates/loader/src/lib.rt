@@ -4,5 +4,7 @@
 mod loader;
 mod memory;
 
-pub use loader::{Queue, Reload, Request, group_at, load_into, step_loader};
-pub use memory::{CounterNumber, Dataset, clear_memory, download, load};
+pub use loader::{GROUP_WORDS, Queue, Reload, Request, group_at, load_into, step_loader};
+pub use memory::{
+    CounterNumber, DATASET_WORDS, Dataset, MEMORY_WORDS, clear_memory, download, load,
+};

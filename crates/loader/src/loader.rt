@@ -3,9 +3,9 @@ ghost use Rattle.std.specs.Prelude.{◌≡◌, ◌<◌, length};
 ghost use Rattle.words.specs.Word.{field_of};
 ghost use Rattle.loader.specs.Loader.{is_empty, is_full, pushed, taken, left_of, queue0, request_for, loader_step, queue_step, group_at, load_into};
 
-use crate::memory::{self, CounterNumber};
+use crate::memory::{self, CounterNumber, MEMORY_WORDS};
 use arrayvec::ArrayVec;
-use counters::Counter;
+use counters::{COUNTERS, Counter};
 use std::marker::Model;
 use words::Field;
 
@@ -110,9 +110,12 @@ pub fn step_loader(loader: &mut Option<Reload>, queue: &mut Queue)
     }
 }
 
+// The group registers, four counters each.
+pub const GROUP_WORDS: usize = COUNTERS / 4;
+
 // The group of counter n: four bits of register n / 4.
 #[tactic(auto, unfolding(crate::specs::Loader::group_at))]
-pub fn group_at(groups: &[u16; 32], n: usize) -> u16
+pub fn group_at(groups: &[u16; GROUP_WORDS], n: usize) -> u16
     ensures { result ≡ group_at groups.now n }
 {
     let word = groups.get(n / 4).copied().unwrap_or(0);
@@ -123,9 +126,9 @@ pub fn group_at(groups: &[u16; 32], n: usize) -> u16
 #[tactic(auto, unfolding(crate::specs::Loader::load_into, counters::specs::Counter::counter_at))]
 pub fn load_into(
     loader: Option<Reload>,
-    groups: &[u16; 32],
-    mem: &[u16; 16384],
-    counters: &mut [Counter; 128],
+    groups: &[u16; GROUP_WORDS],
+    mem: &[u16; MEMORY_WORDS],
+    counters: &mut [Counter; COUNTERS],
 )
     ensures { counters.new ≡ load_into loader groups.now mem.now counters.old }
 {
@@ -133,7 +136,7 @@ pub fn load_into(
         return;
     };
     let number = usize::from(next);
-    if number < 128 && request.group == group_at(groups, number) {
+    if number < COUNTERS && request.group == group_at(groups, number) {
         let dataset = usize::from(request.dataset);
         let n = CounterNumber { number };
         counters[number] = memory::load(mem, dataset, n, counters[number]);

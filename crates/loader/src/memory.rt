@@ -7,7 +7,14 @@ ghost use Rattle.loader.specs.Memory.{memory_words, place_of, loaded, replaced};
 use counters::Counter;
 use std::ops::Range;
 
-// A dataset, by its number among the 32.
+// The words of a dataset, the datasets, and the words of all.
+pub const DATASET_WORDS: usize = 512;
+
+const DATASETS: usize = 32;
+
+pub const MEMORY_WORDS: usize = DATASETS * DATASET_WORDS;
+
+// A dataset, by its number.
 #[derive(Clone, Copy)]
 pub struct Dataset {
     number: usize,
@@ -19,7 +26,7 @@ impl Dataset {
     pub fn new(number: usize) -> Option<Dataset>
         ensures { MatchOption result (is_beyond number ≡ true) (λ d. (is_beyond number ≡ false) × (d.number ≡ number)) }
     {
-        if 31 < number {
+        if DATASETS <= number {
             return None;
         }
         Some(Dataset { number })
@@ -29,8 +36,8 @@ impl Dataset {
     fn part(self) -> Range<usize>
         ensures { (result.start ≡ 512 * self.number) × (result.end ≡ 512 * self.number + 512) }
     {
-        let base = 512 * self.number;
-        base..base + 512
+        let base = DATASET_WORDS * self.number;
+        base..base + DATASET_WORDS
     }
 }
 
@@ -55,7 +62,7 @@ fn load_from(part: &[u16], n: CounterNumber, c: Counter) -> Counter
 }
 
 // A counter with the thresholds of counter n in a dataset; there are 32, and any other reads 0.
-pub fn load(mem: &[u16; 16384], dataset: usize, n: CounterNumber, c: Counter) -> Counter
+pub fn load(mem: &[u16; MEMORY_WORDS], dataset: usize, n: CounterNumber, c: Counter) -> Counter
     ensures { result ≡ loaded mem.now (place_of dataset n.number) c }
 {
     let Some(dataset) = Dataset::new(dataset) else {
@@ -66,14 +73,14 @@ pub fn load(mem: &[u16; 16384], dataset: usize, n: CounterNumber, c: Counter) ->
 
 // 512 words over one dataset; every other word stays.
 #[tactic(auto, unfolding(crate::specs::Memory::replaced))]
-pub fn download(mem: &mut [u16; 16384], dataset: Dataset, words: &[u16; 512])
+pub fn download(mem: &mut [u16; MEMORY_WORDS], dataset: Dataset, words: &[u16; DATASET_WORDS])
     ensures { mem.new ≡ replaced mem.old (512 * dataset.number) words.now }
 {
     mem[dataset.part()].copy_from_slice(words);
 }
 
 // Every word 0.
-pub fn clear_memory(mem: &mut [u16; 16384])
+pub fn clear_memory(mem: &mut [u16; MEMORY_WORDS])
     ensures { mem.new ≡ tabulate memory_words (λ a. 0) }
 {
     mem.fill(0);
