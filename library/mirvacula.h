@@ -8,6 +8,8 @@
 #include <stddef.h>
 #include <stdint.h>
 
+#define MIRVACULA_VERSION "0.2.0"
+
 #define MIRVACULA_MEMORY_WORDS 16384 /* threshold memory */
 #define MIRVACULA_REPORT_WORDS 5     /* stop, next offset, ticks, records passed, records refused */
 #define MIRVACULA_IMAGE_WORDS 5120   /* registers 0x0600 to 0x19FF in address order, 0 where a read is refused */

@@ -1,4 +1,4 @@
-"""Follows every relative link of README.md and docs: `python3 tools/test_reading.py` from the project's folder.
+"""Follows every relative link of the pages at the top and in docs: `python3 tools/test_reading.py` from the project's folder.
 
 The file is there. Where a link names a line (`#L42`) and its text is a name in code quotes, that line has the name."""
 import re
@@ -16,7 +16,7 @@ NOT_RELATIVE = re.compile(r"[a-z]+:|#")
 
 def documents():
     """The pages whose links are followed."""
-    return [ROOT / "README.md", *sorted((ROOT / "docs").rglob("*.md"))]
+    return [*sorted(ROOT.glob("*.md")), *sorted((ROOT / "docs").rglob("*.md"))]
 
 
 def is_named(line, name):
