@@ -9,7 +9,7 @@ use Rattle.std.proofs.Common.{Ok}
 use Rattle.lists.proofs.Tables.{length_tabulate}
 use Rattle.loader.specs.Memory.{is_whole}
 use Rattle.device.specs.declared.state.Crate.{Crate}
-use Rattle.device.specs.Answer.{Answer, number_of}
+use Rattle.causes.specs.Causes.{Answer, number_of}
 use Rattle.device.specs.State.{Machine, machine, memory0}
 use Rattle.interlocks.specs.Scan.{scan_of}
 use Rattle.reading.specs.Read.{read_of}

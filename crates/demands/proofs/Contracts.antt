@@ -12,7 +12,7 @@ use Rattle.registers.proofs.tag.Reads as tag_reads
 use Rattle.registers.proofs.tick.Reads as tick_reads
 use Rattle.registers.proofs.download.Reads as download_reads
 use Rattle.trace.proofs.run.Reads as run_reads
-use Rattle.device.proofs.number.Reads as number_reads
+use Rattle.causes.proofs.number.Reads as number_reads
 use Rattle.records.proofs.U16FromStop.from.Reads as stop_number_reads
 use Rattle.demands.specs.Returned.{Looked, Numbered, Powered, Ran, Returned, Scanned, StopNumbered}
 

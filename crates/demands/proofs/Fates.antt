@@ -6,7 +6,7 @@ use mathlib.Core.Bool.{true, false, not, true≢false}
 use mathlib.Core.List.{List}
 use mathlib.Core.Path.{◌≡◌, refl, sym, ap, ◌∙◌}
 use lib.ListN.{length}
-use Rattle.device.specs.Answer.{is_done}
+use Rattle.causes.specs.Causes.{is_done}
 use Rattle.device.specs.State.{Machine}
 use Rattle.registers.specs.Calls.{Call}
 use Rattle.loader.specs.Memory.{is_whole}

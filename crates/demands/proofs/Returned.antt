@@ -10,9 +10,9 @@ use Rattle.std.proofs.Common.{Result, Ok, Some}
 use Rattle.words.specs.Word.{bit}
 use Rattle.loader.specs.declared.loader.Request.{Request}
 use Rattle.loader.specs.Memory.{is_whole}
-use Rattle.device.specs.declared.answer.Refusal.{Refusal}
+use Rattle.causes.specs.declared.Cause.{Cause}
 use Rattle.device.specs.declared.state.Crate.{Crate}
-use Rattle.device.specs.Answer.{Answer, is_done, number_of}
+use Rattle.causes.specs.Causes.{Answer, is_done, number_of}
 use Rattle.device.specs.Map.{kept_at}
 use Rattle.device.specs.State.{Machine}
 use Rattle.interlocks.specs.declared.scan.OutputScan.{OutputScan}
@@ -77,19 +77,19 @@ module _ (l : List Act) (n : Machine) (h : Rehearsed l n) where
     code_finishes = finishes l₁ x q made l₂
 
   -- what a read after the list returns
-  pub code_read : (a : ℕ) (q : Result ℕ Refusal) → Looked n a q → q ≡ read_of (after (list_of l)) a
+  pub code_read : (a : ℕ) (q : Result ℕ Cause) → Looked n a q → q ≡ read_of (after (list_of l)) a
   code_read a q look = cc (rehearsed l n h)
 
   -- a read of a raw count
-  pub code_raw_reads : (j : ℕ) → j < 108 → (q : Result ℕ Refusal) → Looked n (0x1300 + j) q → q ≡ Ok (low_first j (raw_count (j / 2) (list_of l)))
+  pub code_raw_reads : (j : ℕ) → j < 108 → (q : Result ℕ Cause) → Looked n (0x1300 + j) q → q ≡ Ok (low_first j (raw_count (j / 2) (list_of l)))
   code_raw_reads j b q look = code_read (0x1300 + j) q look ∙ raw_reads j b (list_of l)
 
   -- what a scan after the list returns
-  pub code_scan : (q : Result (List OutputScan) Refusal) → Scanned n q → q ≡ scan_of (after (list_of l))
+  pub code_scan : (q : Result (List OutputScan) Cause) → Scanned n q → q ≡ scan_of (after (list_of l))
   code_scan q scan = cc (rehearsed l n h)
 
   -- and the words that it read make an output 0 where its level is 0
-  pub code_scan_ends : (q : Result (List OutputScan) Refusal) → Scanned n q → (o : ℕ) → o < 6 → (scan_at q o).level ≡ false →
+  pub code_scan_ends : (q : Result (List OutputScan) Cause) → Scanned n q → (o : ℕ) → o < 6 → (scan_at q o).level ≡ false →
       trips n.state o (scan_at q o).words ≡ true
   code_scan_ends q scan o b =
       let whole : is_whole n.memory ≡ true = rw (rehearsed l n h) (eq-eqb _ _ (full_after (list_of l))) in
@@ -97,15 +97,15 @@ module _ (l : List Act) (n : Machine) (h : Rehearsed l n) where
 
   -- a write that `write` accepted, and a read after it
   pub code_read_back : (a w : ℕ) (given : Answer) (k : Machine) → Returned n (write a w) given k → given ≡ Ok tt →
-      (q : Result ℕ Refusal) → Looked k a q → q ≡ Ok (kept_at a w)
+      (q : Result ℕ Cause) → Looked k a q → q ≡ Ok (kept_at a w)
   code_read_back a w given k back e q look =
       let accepted : answer (after (list_of l)) (write a w) ≡ Ok tt = cc (rehearsed l n h) in
       cc (rehearsed l n h, read_back (list_of l) a w accepted)
 
   -- two reads of another register, before a write and after it
   pub code_read_other : (a w b : ℕ) → (a ≡ b → ⊥) → follows_at a b ≡ false →
-      (p : Result ℕ Refusal) → Looked n b p → (given : Answer) (k : Machine) → Returned n (write a w) given k →
-      (q : Result ℕ Refusal) → Looked k b q → q ≡ p
+      (p : Result ℕ Cause) → Looked n b p → (given : Answer) (k : Machine) → Returned n (write a w) given k →
+      (q : Result ℕ Cause) → Looked k b q → q ≡ p
   code_read_other a w b d f p before given k back q look = cc (rehearsed l n h, read_other (list_of l) a w b d f)
 
 -- two rehearsals with the same own part for c: c shows the same
@@ -135,7 +135,7 @@ code_alike_within c b l m e l₁ l₂ w =
 -- two rehearsals in whose accepted ticks an input has the same levels: its raw count reads alike
 pub code_raw_alike : (j : ℕ) → j < 108 → (l m : List Act) (n k : Machine) → Rehearsed l n → Rehearsed m k →
     levels_of (j / 2) (list_of l) ≡ levels_of (j / 2) (list_of m) →
-    (p q : Result ℕ Refusal) → Looked n (0x1300 + j) p → Looked k (0x1300 + j) q → p ≡ q
+    (p q : Result ℕ Cause) → Looked n (0x1300 + j) p → Looked k (0x1300 + j) q → p ≡ q
 code_raw_alike j b l m n k h g e p q look again = cc (rehearsed l n h, rehearsed m k g, raw_alike j b (list_of l) (list_of m) e)
 
 -- two rehearsals with the same settled part for c, shared registers written for neighbours as they please: c shows the same
@@ -165,17 +165,17 @@ pub code_refused : (m : Machine) (x : Call) (a : Answer) (n : Machine) → Retur
 code_refused m x a n back e = back.1 ∙ refused m x (rw back.0 at e)
 
 -- the levels of a scan are the bits of a read of 0x0719, for every crate and memory
-pub code_scan_level : (m : Machine) (q : Result (List OutputScan) Refusal) → Scanned m q → (p : Result ℕ Refusal) → Looked m 0x0719 p →
+pub code_scan_level : (m : Machine) (q : Result (List OutputScan) Cause) → Scanned m q → (p : Result ℕ Cause) → Looked m 0x0719 p →
     (o : ℕ) → o < 6 → (scan_at q o).level ≡ bit (word_shown p) o
 code_scan_level m q scan p look o b = rw (scan, look) (scan_level m o b)
 
 -- and no fewer of the first words than a scan read make an output 0
-pub code_scan_least : (m : Machine) (q : Result (List OutputScan) Refusal) → Scanned m q → (o : ℕ) → o < 6 →
+pub code_scan_least : (m : Machine) (q : Result (List OutputScan) Cause) → Scanned m q → (o : ℕ) → o < 6 →
     (w : ℕ) → w < (scan_at q o).words → trips m.state o w ≡ false
 code_scan_least m q scan o b = rw scan (scan_least m o b)
 
 -- and all are read where its level is 1
-pub code_scan_whole : (m : Machine) (q : Result (List OutputScan) Refusal) → Scanned m q → (o : ℕ) → o < 6 → (scan_at q o).level ≡ true →
+pub code_scan_whole : (m : Machine) (q : Result (List OutputScan) Cause) → Scanned m q → (o : ℕ) → o < 6 → (scan_at q o).level ≡ true →
     (scan_at q o).words ≡ 22
 code_scan_whole m q scan o b = rw scan (scan_whole m o b)
 

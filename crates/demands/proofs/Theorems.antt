@@ -11,9 +11,9 @@ use Rattle.std.proofs.Common.{Result, Ok, Some}
 use Rattle.bools.specs.Pick.{pick}
 use Rattle.loader.specs.declared.loader.Request.{Request}
 use Rattle.loader.specs.Memory.{is_whole}
-use Rattle.device.specs.declared.answer.Refusal.{Refusal}
+use Rattle.causes.specs.declared.Cause.{Cause}
 use Rattle.device.specs.declared.state.Crate.{Crate}
-use Rattle.device.specs.Answer.{Answer, number_of}
+use Rattle.causes.specs.Causes.{Answer, number_of}
 use Rattle.device.specs.State.{Machine, memory0, power_up}
 use Rattle.reading.specs.Read.{read_of}
 use Rattle.records.specs.Stops.{stop_number}
@@ -196,5 +196,5 @@ module _ (l : List Act) (n : Machine) (h : Rehearsed l n) (l₁ : List Call) (x 
 -- Document 02, request 1: two rehearsals in whose accepted ticks an input has the same levels read its raw count alike.
 pub code_raw_alike : (j : ℕ) → j < 108 → (l m : List Act) (n k : Machine) → Rehearsed l n → Rehearsed m k →
     levels_of (j / 2) (list_of l) ≡ levels_of (j / 2) (list_of m) →
-    (p q : Result ℕ Refusal) → Looked n (0x1300 + j) p → Looked k (0x1300 + j) q → p ≡ q
+    (p q : Result ℕ Cause) → Looked n (0x1300 + j) p → Looked k (0x1300 + j) q → p ≡ q
 code_raw_alike = returning.code_raw_alike

@@ -3,11 +3,11 @@
 use Rattle.std.specs.Prelude.{ℕ, ◌+◌, ◌-◌, ◌*◌, Bool, true, false, not, ◌&&◌, List, [], ◌∷◌, ◌≡◌, eqb, ltb, length, Some, None, Result, Ok, Err}
 use Rattle.std.specs.Option.{option_map_or}
 use Rattle.bools.specs.Pick.{pick}
-use Rattle.device.specs.declared.answer.Refusal.{Refusal}
-use Rattle.device.specs.declared.answer.Refusal.TheVariants.{Memory, Address, ReadOnly, Dataset, Full, Level, Length}
+use Rattle.causes.specs.declared.Cause.{Cause}
+use Rattle.causes.specs.declared.Cause.TheVariants.{Memory, Address, ReadOnly, Dataset, Full, Level, UnknownTag, WrongLength, Cut, NoRepeat, Length}
 use Rattle.device.specs.declared.map.Register.{Register}
 use Rattle.device.specs.declared.map.Register.TheVariants.{Readout, Other, Control, Mode, Timeout, Key, Enable, Reload, Prepare, Recover, Input, Group, Word}
-use Rattle.device.specs.Answer.{Answer, is_done, number_of}
+use Rattle.causes.specs.Causes.{Answer, is_done, number_of}
 use Rattle.device.specs.Map.{decode_of}
 use Rattle.device.specs.State.{Machine, with_memory, with_state}
 use Rattle.interlocks.specs.Scan.{scanned as scan_in}
@@ -18,8 +18,6 @@ use Rattle.reading.specs.Read.{word_in}
 use Rattle.records.specs.declared.Record.TheVariants.{Ticks, Write, Tag}
 use Rattle.records.specs.declared.Stop.{Stop}
 use Rattle.records.specs.declared.Stop.TheVariants.{End, Spent, Refused}
-use Rattle.records.specs.declared.Cause.TheVariants.{UnknownTag, WrongLength, Cut, NoRepeat}
-use Rattle.records.specs.declared.Cause.TheVariants.{Memory as MemoryCause}
 use Rattle.records.specs.Records.{Found, gate_bytes, header_bytes, input_bytes, is_known, length_at, number_at, payload_bytes, record_at, repeat_bytes, tag_at}
 use Rattle.registers.specs.Calls.{Call, tick, write, tag, download}
 use Rattle.tagging.specs.Tag.{command_of, events_on, noted_in, right_key, tag_of}
@@ -130,14 +128,14 @@ conditions_of m (reading a) = on (Err Memory) (not_whole m) ∷ on (Err Address)
 conditions_of m scanning = on (Err Memory) (not_whole m) ∷ []
 conditions_of m (tracing t budget) = on (Err Memory) (not_whole m) ∷ []
 
--- accepted, or the first cause whose condition holds; its number of 01's table is `number_of` of it (device/specs/Answer.antt)
+-- accepted, or the first cause whose condition holds; its number of 01's table is `number_of` of it (causes/specs/Causes.antt)
 abbrev pub cause_of : Machine → Act → Answer
 cause_of m x = first (conditions_of m x) (Ok tt)
 
 -- ---- "Returned"
 
 -- what an accepted read or scan gives, or the cause
-abbrev pub giving : {A : Type 0} → Answer → A → Result A Refusal
+abbrev pub giving : {A : Type 0} → Answer → A → Result A Cause
 giving (Ok _) x = Ok x
 giving (Err cause) x = Err cause
 
@@ -147,7 +145,7 @@ unfoldable pub shown_by : Machine → Act → Answer → Seen
 shown_by m (calling x) a = answered a (number_of a)
 shown_by m (reading b) a = told (giving a (option_map_or (word_in m) (decode_of b) 0)) (number_of a)
 shown_by m scanning a = scanned (giving a (scan_in m.state)) (number_of a)
-shown_by m (tracing t budget) a = numbered (pick (is_done a) (run_of t budget m).progress.report (report_of (Refused MemoryCause) 0 0 0 0))
+shown_by m (tracing t budget) a = numbered (pick (is_done a) (run_of t budget m).progress.report (report_of (Refused Memory) 0 0 0 0))
 
 -- ---- "Left as it was"
 
@@ -173,13 +171,9 @@ all_but_tag m (tracing t budget) = m
 
 unfoldable pub left_by : Machine → Act → Answer → Machine
 left_by m x (Ok _) = work_of m x
-left_by m x (Err Memory) = m
-left_by m x (Err Address) = m
-left_by m x (Err ReadOnly) = m
 left_by m x (Err Dataset) = all_but_tag m x
 left_by m x (Err Full) = all_but_tag m x
-left_by m x (Err Level) = m
-left_by m x (Err Length) = m
+left_by m x (Err cause) = m
 
 -- ---- the records of a run
 

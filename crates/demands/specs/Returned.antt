@@ -2,9 +2,9 @@
 -- functions, and of all that these returned, by the contracts of the functions alone.
 use Rattle.std.specs.Prelude.{ℕ, true, false, List, [], ◌∷◌, ◌≡◌, Result}
 use Rattle.loader.specs.Memory.{is_whole}
-use Rattle.device.specs.declared.answer.Refusal.{Refusal}
+use Rattle.causes.specs.declared.Cause.{Cause}
 use Rattle.device.specs.declared.state.Crate.{Crate}
-use Rattle.device.specs.Answer.{Answer, number_of}
+use Rattle.causes.specs.Causes.{Answer, number_of}
 use Rattle.device.specs.State.{Machine, machine}
 use Rattle.interlocks.specs.declared.scan.OutputScan.{OutputScan}
 use Rattle.interlocks.specs.Scan.{scan_of}
@@ -27,11 +27,11 @@ abbrev pub Returned : Machine → Call → Answer → Machine → Type 0
 Returned m x a n = (a ≡ answer m x) × (n ≡ step m x)
 
 -- a `read` of address a returned q; crate and memory were lent to be read
-abbrev pub Looked : Machine → ℕ → Result ℕ Refusal → Type 0
+abbrev pub Looked : Machine → ℕ → Result ℕ Cause → Type 0
 Looked m a q = q ≡ read_of m a
 
 -- a `scan` returned q; crate and memory were lent to be read
-abbrev pub Scanned : Machine → Result (List OutputScan) Refusal → Type 0
+abbrev pub Scanned : Machine → Result (List OutputScan) Cause → Type 0
 Scanned m q = q ≡ scan_of m
 
 -- a `run` of trace t on crate and memory m returned this report and left crate s and this memory
@@ -39,7 +39,7 @@ abbrev pub Ran : Machine → List ℕ → ℕ → Crate → Report → List ℕ 
 Ran m t budget s report memory = run (progress_of s report false) memory ≡ run_of t budget m
 
 -- `number` of an answer, of a read's or a scan's too, and `u16::from` of a stop returned k
-abbrev pub Numbered : {A : Type 0} → Result A Refusal → ℕ → Type 0
+abbrev pub Numbered : {A : Type 0} → Result A Cause → ℕ → Type 0
 Numbered a k = k ≡ number_of a
 
 abbrev pub StopNumbered : Stop → ℕ → Type 0
@@ -48,8 +48,8 @@ StopNumbered stop k = k ≡ stop_number stop
 -- An act on crate and memory m returned what was seen, and left n.
 unfoldable pub Acted : Machine → Act → Seen → Machine → Type 0
 Acted m (calling x) seen n = (a : Answer) × (k : ℕ) × Returned m x a n × Numbered a k × (seen ≡ answered a k)
-Acted m (reading a) seen n = (q : Result ℕ Refusal) × (k : ℕ) × Looked m a q × Numbered q k × (seen ≡ told q k) × (n ≡ m)
-Acted m scanning seen n = (q : Result (List OutputScan) Refusal) × (k : ℕ) × Scanned m q × Numbered q k × (seen ≡ scanned q k) × (n ≡ m)
+Acted m (reading a) seen n = (q : Result ℕ Cause) × (k : ℕ) × Looked m a q × Numbered q k × (seen ≡ told q k) × (n ≡ m)
+Acted m scanning seen n = (q : Result (List OutputScan) Cause) × (k : ℕ) × Scanned m q × Numbered q k × (seen ≡ scanned q k) × (n ≡ m)
 Acted m (tracing t budget) seen n =
     (s : Crate) × (report : Report) × (memory : List ℕ) × (k : ℕ) × Ran m t budget s report memory × StopNumbered report.stop k
     × (seen ≡ reported report k) × (n ≡ machine s memory)

@@ -1,7 +1,7 @@
 -- Demand 2 on one page: all that is to be seen of a list of calls, reads, scans and trace runs.
 use Rattle.std.specs.Prelude.{ℕ, List, [], ◌∷◌, ◌++◌, Result, Ok}
-use Rattle.device.specs.declared.answer.Refusal.{Refusal}
-use Rattle.device.specs.Answer.{Answer, number_of}
+use Rattle.causes.specs.declared.Cause.{Cause}
+use Rattle.causes.specs.Causes.{Answer, number_of}
 use Rattle.device.specs.State.{Machine}
 use Rattle.interlocks.specs.declared.scan.OutputScan.{OutputScan}
 use Rattle.interlocks.specs.Scan.{scan_of}
@@ -22,8 +22,8 @@ pub data Act : Type 0 where
 -- what it shows: an answer, a read's with its word, a scan's with levels and words read, a run's report; each with its number of 01's table
 pub data Seen : Type 0 where
   answered : Answer → ℕ → Seen
-  told : Result ℕ Refusal → ℕ → Seen
-  scanned : Result (List OutputScan) Refusal → ℕ → Seen
+  told : Result ℕ Cause → ℕ → Seen
+  scanned : Result (List OutputScan) Cause → ℕ → Seen
   reported : Report → ℕ → Seen
 
 -- what an act is to show on crate and memory m: the answer of 01's conditions, the word that the Manual, completed by 01, defines, and

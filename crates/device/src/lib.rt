@@ -1,10 +1,8 @@
-// The crate as one value, its registers by address, and the answers of calls.
+// The crate as one value, and its registers by address.
 #![tactic(auto)]
 
-mod answer;
 mod map;
 mod state;
 
-pub use answer::{Refusal, number};
 pub use map::{Register, Setting, Status, decode};
 pub use state::{Common, Crate, Events, Rest};

@@ -3,8 +3,8 @@ use Rattle.std.specs.Prelude.{ℕ, List, Result, Ok, Err}
 use Rattle.bools.specs.Pick.{pick}
 use Rattle.lists.specs.Table.{least, tabulate}
 use Rattle.loader.specs.Memory.{is_whole}
-use Rattle.device.specs.declared.answer.Refusal.{Refusal}
-use Rattle.device.specs.declared.answer.Refusal.TheVariants.{Memory}
+use Rattle.causes.specs.declared.Cause.{Cause}
+use Rattle.causes.specs.declared.Cause.TheVariants.{Memory}
 use Rattle.device.specs.declared.state.Crate.{Crate}
 use Rattle.device.specs.Map.{output_words}
 use Rattle.device.specs.State.{Machine}
@@ -25,5 +25,5 @@ abbrev pub scanned : Crate → List OutputScan
 scanned s = tabulate output_count (output_scan s)
 
 -- "refused 1", and else the six
-unfoldable pub scan_of : Machine → Result (List OutputScan) Refusal
+unfoldable pub scan_of : Machine → Result (List OutputScan) Cause
 scan_of m = pick (is_whole m.memory) (Ok (scanned m.state)) (Err Memory)

@@ -5,7 +5,7 @@ use mathlib.Core.Path.{◌≡◌}
 use borrow.Author.Tests.{eq-eqb}
 use lib.ListN.{length}
 use Rattle.device.specs.declared.state.Crate.{Crate}
-use Rattle.device.specs.Answer.{Answer}
+use Rattle.causes.specs.Causes.{Answer}
 use Rattle.device.specs.State.{machine, memory0}
 use Rattle.registers.specs.Calls.{machine0, powered, powered_memory}
 

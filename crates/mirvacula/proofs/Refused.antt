@@ -6,11 +6,11 @@ use lib.ListN.{replicate}
 use Rattle.std.proofs.Common.{Result, Ok, Err}
 use Rattle.std.specs.Result.{result_unwrap_or}
 use Rattle.lists.specs.Table.{table_from, tabulate}
-use Rattle.device.specs.declared.answer.Refusal.{Refusal}
+use Rattle.causes.specs.declared.Cause.{Cause}
 use Rattle.interlocks.specs.declared.scan.OutputScan.{OutputScan}
 use Rattle.mirvacula.specs.Exported.{output_numbers, scan_numbers}
 
-pub scan_told : (scan : Result (List OutputScan) Refusal) →
+pub scan_told : (scan : Result (List OutputScan) Cause) →
     output_numbers (result_unwrap_or scan (replicate 6 (record { level = false; words = 0 }))) ≡ scan_numbers scan
 unfolding tabulate table_from
 scan_told (Ok outputs) = refl

@@ -6,32 +6,25 @@ use Rattle.bools.specs.Pick.{pick}
 use Rattle.words.specs.Word.{bit_of}
 use Rattle.lists.specs.Table.{tabulate}
 use Rattle.loader.specs.Memory.{is_whole}
-use Rattle.device.specs.declared.answer.Refusal.{Refusal}
+use Rattle.causes.specs.declared.Cause.{Cause}
 use Rattle.interlocks.specs.declared.scan.OutputScan.{OutputScan}
 use Rattle.interlocks.specs.Scan.{scan_of}
 use Rattle.registers.specs.Calls.{powered, powered_memory}
 use Rattle.reading.specs.Read.{read_of}
 use Rattle.device.specs.State.{Machine, machine}
 use Rattle.trace.specs.declared.Report.{Report}
-use Rattle.records.specs.declared.Stop.{Stop}
-use Rattle.records.specs.declared.Stop.TheVariants.{End, Spent, Refused}
-use Rattle.records.specs.declared.Cause.TheVariants.{Memory}
+use Rattle.causes.specs.declared.Cause.TheVariants.{Memory}
 use Rattle.trace.specs.Run.{Run, machine_of, run_of}
-use Rattle.records.specs.Stops.{cause_number}
+use Rattle.causes.specs.Causes.{cause_number}
+use Rattle.records.specs.Stops.{stop_number}
 use Rattle.lent.specs.Lent.{bad_buffer}
-
--- why a run stopped, as a number: 0 for END, 254 for SPENT, else the number of 01's table
-abbrev pub stop_code : Stop → ℕ
-stop_code End = 0
-stop_code Spent = 254
-stop_code (Refused cause) = cause_number cause
 
 abbrev pub report_words : ℕ
 report_words = 5
 
 -- stop, next offset, ticks, records passed, records refused
 abbrev pub report_of : Report → List ℕ
-report_of r = stop_code r.stop ∷ r.next ∷ r.ticks ∷ r.records ∷ r.refused ∷ []
+report_of r = stop_number r.stop ∷ r.next ∷ r.ticks ∷ r.records ∷ r.refused ∷ []
 
 -- the registers below the threshold memory, in address order from 0x0600 to 0x19FF: the word of a read, 0 where it is refused
 abbrev pub image_start : ℕ
@@ -50,7 +43,7 @@ scan_words = 12
 abbrev pub output_numbers : List OutputScan → List ℕ
 output_numbers outputs = map (λ x. bit_of x.level) outputs ++ map (λ x. x.words) outputs
 
-abbrev pub scan_numbers : Result (List OutputScan) Refusal → List ℕ
+abbrev pub scan_numbers : Result (List OutputScan) Cause → List ℕ
 scan_numbers (Ok outputs) = output_numbers outputs
 scan_numbers (Err cause) = tabulate scan_words (λ k. 0)
 
@@ -70,7 +63,7 @@ run_on memory t budget = run_of t budget (machine (powered memory).0 (powered_me
 -- the words are what `shown` gives of the crate and memory that the run leaves
 abbrev pub exported_by : (Machine → List ℕ) → Run → Exported
 exported_by shown r =
-    exported (stop_code r.progress.report.stop) r.memory (report_of r.progress.report) (shown (machine_of r))
+    exported (stop_number r.progress.report.stop) r.memory (report_of r.progress.report) (shown (machine_of r))
 
 abbrev pub is_fitting : ℕ → List ℕ → List ℕ → Bool
 is_fitting size report words = eqb (length report) report_words && eqb (length words) size

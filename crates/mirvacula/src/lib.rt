@@ -10,35 +10,24 @@ ghost use Rattle.mirvacula.specs.Converting.{answered, convert_of, unanswered};
 ghost use Rattle.lent.specs.Lent.{bad_buffer};
 ghost use Rattle.lent.specs.Sums.{lent_sample, lent_start, sum_sample_of, sum_start_of};
 ghost use Rattle.patching.specs.Patching.{group_word_of, input_word_of};
-ghost use Rattle.mirvacula.specs.Exported.{exported, export_of, image_of, output_numbers, report_of, run_on, scan_export_of, stop_code};
-ghost use Rattle.records.specs.declared.Cause.TheVariants.{Memory};
-ghost use Rattle.records.specs.Stops.{cause_number};
+ghost use Rattle.mirvacula.specs.Exported.{exported, export_of, image_of, output_numbers, report_of, run_on, scan_export_of};
+ghost use Rattle.causes.specs.declared.Cause.TheVariants.{Memory};
+ghost use Rattle.causes.specs.Causes.{cause_number};
 ghost use Rattle.trace.specs.Run.{progress_of, run as run_run};
 
 use captures::Refusal;
+use causes::Cause;
 use device::Crate;
 use interlocks::OutputScan;
 use lent::BAD_BUFFER;
-use records::{Cause, Stop};
 use trace::Report;
 
-// 0 for END, 254 for SPENT, else the cause's number: the C interface needs a number.
-fn stop_code(stop: Stop) -> u16
-    ensures { result ≡ stop_code stop }
-{
-    match stop {
-        Stop::End => 0,
-        Stop::Spent => 254,
-        Stop::Refused(cause) => u16::from(cause),
-    }
-}
-
-// The report as five numbers.
+// The report as five numbers, as the C interface needs them.
 fn put_report(out: &mut [u64; 5], report: Report)
     ensures { out.new ≡ report_of report }
 {
     *out = [
-        u64::from(stop_code(report.stop)),
+        u16::from(report.stop).into(),
         report.next as u64,
         report.ticks,
         report.records as u64,
@@ -121,7 +110,7 @@ pub extern "C" fn mirvacula_run(
     };
     let (state, told) = run_and_report(mem, bytes, budget, report);
     put_image(image, &state, mem);
-    stop_code(told.stop)
+    told.stop.into()
 }
 
 // Runs a trace as `mirvacula_run` does and scans the outputs of the crate that it leaves. Nothing is done where the report
@@ -146,7 +135,7 @@ pub extern "C" fn mirvacula_scan(
     let (state, told) = run_and_report(mem, bytes, budget, report);
     let scan = registers::scan(&state, mem).unwrap_or(REFUSED);
     put_scan(outputs, &scan);
-    stop_code(told.stop)
+    told.stop.into()
 }
 
 // An answer of the wrong length; a capture that is not of whole frames comes first. Numbers, as the C interface needs them.

@@ -7,7 +7,7 @@ use lib.ListN.{length, take}
 use Rattle.std.proofs.Math.Nat.{min_comm}
 use Rattle.std.proofs.lemmas.List.{take_min}
 use Rattle.device.specs.declared.state.Crate.{Crate}
-use Rattle.device.specs.Answer.{Answer}
+use Rattle.causes.specs.Causes.{Answer}
 use Rattle.device.specs.State.{Machine, machine}
 use Rattle.registers.specs.Calls.{machine0, powered, powered_memory}
 use Rattle.machine.proofs.Powered.{powered_up}

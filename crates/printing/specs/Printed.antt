@@ -9,7 +9,7 @@ use Rattle.trace.specs.declared.Report.{Report}
 use Rattle.records.specs.declared.Stop.{Stop}
 use Rattle.records.specs.declared.Stop.TheVariants.{End, Spent, Refused}
 use Rattle.trace.specs.Run.{Run, machine_of, run_of}
-use Rattle.records.specs.Stops.{cause_number}
+use Rattle.causes.specs.Causes.{cause_number}
 
 -- "STOP is END, SPENT or 7 to 10"
 unfoldable pub stop_text : Stop → List ℕ

@@ -11,8 +11,8 @@ use Rattle.lines.specs.Raw.{raw_at}
 use Rattle.loader.specs.Loader.{busy}
 use Rattle.loader.specs.Memory.{is_whole, word_at}
 use Rattle.watchdogs.specs.Watchdog.{error_of, reset_of, watchdog_word}
-use Rattle.device.specs.declared.answer.Refusal.{Refusal}
-use Rattle.device.specs.declared.answer.Refusal.TheVariants.{Memory, Address}
+use Rattle.causes.specs.declared.Cause.{Cause}
+use Rattle.causes.specs.declared.Cause.TheVariants.{Memory, Address}
 use Rattle.device.specs.declared.map.Register.{Register}
 use Rattle.device.specs.declared.map.Register.TheVariants.{Readout, Other, Control, Mode, Timeout, Key, Enable, Reload, Prepare, Recover, Input, Group, Word}
 use Rattle.device.specs.declared.map.Setting.{Setting}
@@ -85,11 +85,11 @@ word_in m (Group k) = get_or m.state.groups k 0
 word_in m (Word i) = word_at m.memory i
 
 -- a read: cause 1, then 2
-unfoldable pub read_of : Machine → ℕ → Result ℕ Refusal
+unfoldable pub read_of : Machine → ℕ → Result ℕ Cause
 read_of m a =
     pick (is_whole m.memory) (option_map_or (λ (r : Register). Ok (word_in m r)) (decode_of a) (Err Address)) (Err Memory)
 
 -- the word that is shown of a read: 0 of a refused one
-abbrev pub word_shown : Result ℕ Refusal → ℕ
+abbrev pub word_shown : Result ℕ Cause → ℕ
 word_shown (Ok w) = w
 word_shown (Err _) = 0

@@ -13,7 +13,7 @@ use Rattle.std.proofs.lemmas.List.{get_or-drop, length-drop, take_rest}
 use Rattle.std.proofs.lemmas.Bool.Decides.{nat_tests}
 use Rattle.bools.specs.Pick.{pick}
 use Rattle.bools.proofs.Tests.{cases}
-use Rattle.records.specs.declared.Cause.TheVariants.{WrongLength}
+use Rattle.causes.specs.declared.Cause.TheVariants.{WrongLength}
 use Rattle.records.specs.declared.kind.Kind.{Kind}
 use Rattle.records.specs.declared.kind.Kind.TheVariants.{Ticks, Write, Tag}
 use Rattle.records.specs.Kinds.{payload_read, kind_tag}

@@ -1,8 +1,8 @@
 -- Document 01, "Trace and printing program": the kinds of records.
 use Rattle.std.specs.Prelude.{ℕ, List, Some, Result, Ok, Err, ltb, length}
 use Rattle.bools.specs.Pick.{pick}
-use Rattle.records.specs.declared.Cause.{Cause}
-use Rattle.records.specs.declared.Cause.TheVariants.{Cut}
+use Rattle.causes.specs.declared.Cause.{Cause}
+use Rattle.causes.specs.declared.Cause.TheVariants.{Cut}
 use Rattle.records.specs.declared.Record.{Record}
 use Rattle.records.specs.declared.kind.Kind.{Kind}
 use Rattle.records.specs.declared.kind.Kind.TheVariants.{Ticks, Write, Tag}

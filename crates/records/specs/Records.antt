@@ -4,8 +4,8 @@ use Rattle.bools.specs.Pick.{pick}
 use Rattle.lines.specs.declared.levels.Levels.{Levels}
 use Rattle.records.specs.declared.Record.{Record}
 use Rattle.records.specs.declared.Record.TheVariants.{Ticks, Write, Tag}
-use Rattle.records.specs.declared.Cause.{Cause}
-use Rattle.records.specs.declared.Cause.TheVariants.{UnknownTag, WrongLength, Cut, NoRepeat}
+use Rattle.causes.specs.declared.Cause.{Cause}
+use Rattle.causes.specs.declared.Cause.TheVariants.{UnknownTag, WrongLength, Cut, NoRepeat}
 
 -- the number of n bytes from a place on, "high byte first"
 unfoldable pub number_at : List ℕ → ℕ → ℕ → ℕ

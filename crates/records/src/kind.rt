@@ -2,9 +2,10 @@
 ghost use Rattle.std.specs.Prelude.{◌≡◌, MatchResult, false};
 ghost use Rattle.records.specs.Kinds.{found, payload_read, kind_tag};
 ghost use Rattle.records.specs.Records.{is_known, payload_at, payload_bytes};
-ghost use Rattle.records.specs.declared.Cause.TheVariants.{UnknownTag};
+ghost use Rattle.causes.specs.declared.Cause.TheVariants.{UnknownTag};
 
-use crate::{Cause, Record};
+use crate::Record;
+use causes::Cause;
 use lines::Levels;
 
 #[derive(Clone, Copy)]

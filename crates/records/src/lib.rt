@@ -3,12 +3,13 @@
 
 ghost use Rattle.std.specs.Prelude.{◌≡◌};
 ghost use Rattle.records.specs.Records.{bytes_taken};
-ghost use Rattle.records.specs.Stops.{cause_number, stop_number};
+ghost use Rattle.records.specs.Stops.{stop_number};
 ghost use Rattle.records.specs.declared.Stop.TheVariants.{Refused};
 
 mod kind;
 mod records;
 
+use causes::Cause;
 use kind::Kind;
 use lines::Levels;
 pub use records::record_at;
@@ -23,16 +24,6 @@ pub enum Stop {
     Refused(Cause),
 }
 
-// The causes that stop a run.
-#[derive(Clone, Copy, PartialEq, Eq)]
-pub enum Cause {
-    Memory,
-    UnknownTag,
-    WrongLength,
-    Cut,
-    NoRepeat,
-}
-
 impl From<Cause> for Stop {
     ghost from_gives = { λ cause stop. stop ≡ Refused cause };
 
@@ -41,29 +32,14 @@ impl From<Cause> for Stop {
     }
 }
 
-// The number of the table of causes.
-impl From<Cause> for u16 {
-    ghost from_gives = { λ cause number. number ≡ cause_number cause };
-
-    fn from(cause: Cause) -> u16 {
-        match cause {
-            Cause::Memory => 1,
-            Cause::UnknownTag => 7,
-            Cause::WrongLength => 8,
-            Cause::Cut => 9,
-            Cause::NoRepeat => 10,
-        }
-    }
-}
-
-// The number of the table of causes, in which END and SPENT, being no refusals, have none: 0 for both. The theorems about all that is seen tell
-// a run's stop by it; the numbers of a program's own, which differ for the two, are those of `mirvacula::stop_code`.
+// The number of the table of causes, in which END and SPENT, being no refusals, have none: 0 and 254 tell them apart.
 impl From<Stop> for u16 {
     ghost from_gives = { λ stop number. number ≡ stop_number stop };
 
     fn from(stop: Stop) -> u16 {
         match stop {
-            Stop::End | Stop::Spent => 0,
+            Stop::End => 0,
+            Stop::Spent => 254,
             Stop::Refused(cause) => u16::from(cause),
         }
     }

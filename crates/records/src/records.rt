@@ -2,8 +2,9 @@
 ghost use Rattle.std.specs.Prelude.{◌≡◌};
 ghost use Rattle.records.specs.Records.{record_at};
 
+use crate::Record;
 use crate::kind::Kind;
-use crate::{Cause, Record};
+use causes::Cause;
 
 // The record at an offset, none at the end of the trace, or the cause that stops a run before it. Causes in order: header cut, unknown tag,
 // wrong length, payload cut, repeat 0.

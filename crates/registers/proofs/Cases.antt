@@ -3,7 +3,7 @@ use Prim.Native.Nat.{ℕ, zero, suc, ◌+◌, ◌*◌}
 use mathlib.Core.List.{List, [], ◌∷◌, ◌++◌}
 use lib.ListN.{replicate}
 use Rattle.words.specs.Word.{bit, bit_of}
-use Rattle.device.specs.Answer.{number_of}
+use Rattle.causes.specs.Causes.{number_of}
 use Rattle.registers.specs.Calls.{Call, tick, write, answer, after}
 use Rattle.reading.specs.Read.{read_of}
 pub use Rattle.reading.specs.Read.{word_shown}

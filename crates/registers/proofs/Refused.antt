@@ -6,10 +6,10 @@ use lib.Dec.{eqb}
 use Rattle.std.proofs.Common.{Err, Option, Some, None}
 use Rattle.std.specs.Option.{option_map_or}
 use Rattle.bools.proofs.Tests.{cases}
-use Rattle.device.specs.declared.answer.Refusal.TheVariants.{Address}
+use Rattle.causes.specs.declared.Cause.TheVariants.{Address}
 use Rattle.device.specs.declared.map.Register.{Register}
 use Rattle.device.specs.declared.map.Register.TheVariants.{Readout, Other, Control, Mode, Timeout, Key, Enable, Reload, Prepare, Recover, Input, Group, Word}
-use Rattle.device.specs.Answer.{is_done}
+use Rattle.causes.specs.Causes.{is_done}
 use Rattle.loader.specs.Memory.{is_whole}
 use Rattle.registers.specs.Calls.{Call, tick, write, tag, download, answer, call_answer, called, left_by_refusal, step}
 use Rattle.device.specs.Map.{decode_of}

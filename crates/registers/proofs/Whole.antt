@@ -12,7 +12,7 @@ use Rattle.lists.proofs.Splice.{length_spliced}
 use Rattle.loader.specs.Memory.{replaced}
 use Rattle.device.specs.declared.map.Register.{Register}
 use Rattle.device.specs.declared.map.Register.TheVariants.{Readout, Other, Control, Mode, Timeout, Key, Enable, Reload, Prepare, Recover, Input, Group, Word}
-use Rattle.device.specs.Answer.{is_done}
+use Rattle.causes.specs.Causes.{is_done}
 use Rattle.loader.specs.Memory.{is_whole}
 use Rattle.registers.specs.Calls.{Call, tick, write, tag, download, called, download_answer, step}
 use Rattle.device.specs.Map.{decode_of}

@@ -5,10 +5,10 @@ use Rattle.bools.specs.Pick.{pick}
 use Rattle.words.specs.Word.{bit_of}
 use Rattle.loader.specs.Loader.{is_beyond}
 use Rattle.loader.specs.Memory.{dataset_words, is_whole, replaced}
-use Rattle.device.specs.declared.answer.Refusal.TheVariants.{Memory, Address, Dataset, Level, Length}
+use Rattle.causes.specs.declared.Cause.TheVariants.{Memory, Address, Dataset, Level, Length}
 use Rattle.device.specs.declared.map.Register.{Register}
 use Rattle.device.specs.declared.state.Crate.{Crate}
-use Rattle.device.specs.Answer.{Answer, is_done}
+use Rattle.causes.specs.Causes.{Answer, is_done}
 use Rattle.device.specs.Map.{decode_of}
 use Rattle.device.specs.State.{Machine, machine, memory0, power_up, with_memory, with_state}
 use Rattle.tagging.specs.Tag.{noted_in, tag_answer, tag_of}

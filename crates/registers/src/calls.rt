@@ -7,19 +7,20 @@ ghost use Rattle.interlocks.specs.Scan.{scan_of};
 ghost use Rattle.reading.specs.Read.{read_of};
 ghost use Rattle.device.specs.State.{machine};
 
-use device::{Crate, Refusal};
+use causes::Cause;
+use device::Crate;
 use interlocks::OutputScan;
 use lines::Levels;
 use loader::Dataset;
 
 // Power-up: a new crate, and a memory of zeros. A refused one gives a crate too, so the answer is a pair and no `Result` of a crate.
 #[tactic(auto, unfolding(crate::specs::Calls::powered, crate::specs::Calls::powered_memory, device::specs::State::memory0))]
-pub fn power_up(mem: &mut [u16]) -> (Crate, Result<(), Refusal>)
+pub fn power_up(mem: &mut [u16]) -> (Crate, Result<(), Cause>)
     ensures { (result ≡ powered mem.old) × (mem.new ≡ powered_memory mem.old) }
 {
     let state = Crate::default();
     let Some(mem) = mem.as_mut_array() else {
-        return (state, Err(Refusal::Memory));
+        return (state, Err(Cause::Memory));
     };
     loader::clear_memory(mem);
     (state, Ok(()))
@@ -27,55 +28,55 @@ pub fn power_up(mem: &mut [u16]) -> (Crate, Result<(), Refusal>)
 
 // A read: the word at an address.
 #[tactic(auto, unfolding(reading::specs::Read::read_of))]
-pub fn read(state: &Crate, mem: &[u16], address: u16) -> Result<u16, Refusal>
+pub fn read(state: &Crate, mem: &[u16], address: u16) -> Result<u16, Cause>
     ensures { result ≡ read_of (machine state.now mem.now) address }
 {
     let register = device::decode(address);
-    let mem = mem.as_array().ok_or(Refusal::Memory)?;
-    Ok(reading::word_in(state, mem, register.ok_or(Refusal::Address)?))
+    let mem = mem.as_array().ok_or(Cause::Memory)?;
+    Ok(reading::word_in(state, mem, register.ok_or(Cause::Address)?))
 }
 
 // A scan of the six outputs: levels and words read.
 #[tactic(auto, unfolding(interlocks::specs::Scan::scan_of))]
-pub fn scan(state: &Crate, mem: &[u16]) -> Result<[OutputScan; 6], Refusal>
+pub fn scan(state: &Crate, mem: &[u16]) -> Result<[OutputScan; 6], Cause>
     ensures { result ≡ scan_of (machine state.now mem.now) }
 {
     if mem.len() == 16384 {
         Ok(interlocks::scan_outputs(state))
     } else {
-        Err(Refusal::Memory)
+        Err(Cause::Memory)
     }
 }
 
 // A write of a word to an address.
 #[tactic(auto, unfolding(crate::specs::Calls::answer, crate::specs::Calls::step, crate::specs::Calls::call_answer, crate::specs::Calls::called))]
-pub fn write(state: &mut Crate, mem: &mut [u16], address: u16, word: u16) -> Result<(), Refusal>
+pub fn write(state: &mut Crate, mem: &mut [u16], address: u16, word: u16) -> Result<(), Cause>
     ensures { (result ≡ answer (machine state.old mem.old) (call_write address word)) × (machine state.new mem.new ≡ step (machine state.old mem.old) (call_write address word)) }
 {
-    let mem = mem.as_mut_array().ok_or(Refusal::Memory)?;
-    let register = device::decode(address).ok_or(Refusal::Address)?;
+    let mem = mem.as_mut_array().ok_or(Cause::Memory)?;
+    let register = device::decode(address).ok_or(Cause::Address)?;
     writing::write_at(state, mem, register, word)
 }
 
 // An event tag.
 #[tactic(auto, unfolding(crate::specs::Calls::answer, crate::specs::Calls::step, crate::specs::Calls::call_answer, crate::specs::Calls::called))]
-pub fn tag(state: &mut Crate, mem: &[u16], t: u32) -> Result<(), Refusal>
+pub fn tag(state: &mut Crate, mem: &[u16], t: u32) -> Result<(), Cause>
     ensures { (result ≡ answer (machine state.old mem.now) (call_tag t)) × (machine state.new mem.now ≡ step (machine state.old mem.now) (call_tag t)) }
 {
     if mem.len() != 16384 {
-        return Err(Refusal::Memory);
+        return Err(Cause::Memory);
     }
     tagging::tag_crate(state, t)
 }
 
 // A tick at these levels of inputs and gates.
 #[tactic(auto, unfolding(crate::specs::Calls::answer, crate::specs::Calls::step, crate::specs::Calls::call_answer, crate::specs::Calls::called))]
-pub fn tick(state: &mut Crate, mem: &[u16], levels: Levels) -> Result<(), Refusal>
+pub fn tick(state: &mut Crate, mem: &[u16], levels: Levels) -> Result<(), Cause>
     ensures { (result ≡ answer (machine state.old mem.now) (call_tick levels.inputs levels.gates)) × (machine state.new mem.now ≡ step (machine state.old mem.now) (call_tick levels.inputs levels.gates)) }
 {
-    let mem = mem.as_array().ok_or(Refusal::Memory)?;
+    let mem = mem.as_array().ok_or(Cause::Memory)?;
     if levels.are_bad() {
-        return Err(Refusal::Level);
+        return Err(Cause::Level);
     }
     ticking::tick_crate(state, mem, levels);
     Ok(())
@@ -83,12 +84,12 @@ pub fn tick(state: &mut Crate, mem: &[u16], levels: Levels) -> Result<(), Refusa
 
 // A download of 512 words to a dataset; the crate stays.
 #[tactic(auto, unfolding(crate::specs::Calls::answer, crate::specs::Calls::step, crate::specs::Calls::call_answer, crate::specs::Calls::called, crate::specs::Calls::download_answer))]
-pub fn download(state: &Crate, mem: &mut [u16], dataset: u16, words: &[u16]) -> Result<(), Refusal>
+pub fn download(state: &Crate, mem: &mut [u16], dataset: u16, words: &[u16]) -> Result<(), Cause>
     ensures { (result ≡ answer (machine state.now mem.old) (call_download dataset words.now)) × (machine state.now mem.new ≡ step (machine state.now mem.old) (call_download dataset words.now)) }
 {
-    let mem = mem.as_mut_array().ok_or(Refusal::Memory)?;
-    let words = words.as_array().ok_or(Refusal::Length)?;
-    let dataset = Dataset::new(dataset.into()).ok_or(Refusal::Dataset)?;
+    let mem = mem.as_mut_array().ok_or(Cause::Memory)?;
+    let words = words.as_array().ok_or(Cause::Length)?;
+    let dataset = Dataset::new(dataset.into()).ok_or(Cause::Dataset)?;
     loader::download(mem, dataset, words);
     Ok(())
 }

@@ -22,7 +22,7 @@ use Rattle.loader.specs.Loader.{Queue, dropped, is_empty, loader_step, oldest, p
 use Rattle.device.specs.declared.map.Register.{Register}
 use Rattle.device.specs.declared.map.Register.TheVariants.{Control, Key, Enable, Reload}
 use Rattle.device.specs.declared.state.Common.{Common}
-use Rattle.device.specs.Answer.{is_done}
+use Rattle.causes.specs.Causes.{is_done}
 use Rattle.registers.specs.Calls.{Call, tick, write, tag, download, accepted_ticks, after, called, download_answer, from, machine0, step, tick_one}
 use Rattle.device.specs.Map.{decode_of, kept}
 use Rattle.device.proofs.Found.{found}

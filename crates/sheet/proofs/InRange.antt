@@ -25,7 +25,7 @@ use Rattle.lines.specs.Lines.{frequency, phase_limit, phase_step, step_phases}
 use Rattle.loader.specs.Loader.{Queue, dropped, is_empty, load_into, loader_step, oldest, pushed, queue_step, request0}
 use Rattle.loader.specs.Memory.{loaded, word_at}
 use Rattle.watchdogs.specs.Watchdog.{watchdog_step, watchdog_top}
-use Rattle.device.specs.Answer.{is_done}
+use Rattle.causes.specs.Causes.{is_done}
 use Rattle.writing.specs.Write.{request_answer}
 use Rattle.sheet.specs.Reachable.{CounterInRange, GateInRange, LoaderInRange, QueueInRange, RequestInRange}
 

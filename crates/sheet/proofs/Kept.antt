@@ -20,7 +20,7 @@ use Rattle.gates.proofs.Gates.{length_each_gate}
 use Rattle.device.specs.declared.map.Register.{Register}
 use Rattle.device.specs.declared.map.Register.TheVariants.{Input}
 use Rattle.device.specs.declared.state.Crate.{Crate}
-use Rattle.device.specs.Answer.{is_done}
+use Rattle.causes.specs.Causes.{is_done}
 use Rattle.loader.specs.Memory.{is_whole}
 use Rattle.registers.specs.Calls.{Call, tick, write, tag, download, called, download_answer, machine0, step}
 use Rattle.device.specs.Map.{decode_of, kept}

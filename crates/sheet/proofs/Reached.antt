@@ -34,7 +34,7 @@ use Rattle.device.specs.declared.map.Setting.TheVariants.{Mask, Selection}
 use Rattle.device.specs.declared.state.Common.{Common}
 use Rattle.device.specs.declared.state.Crate.{Crate}
 use Rattle.device.specs.declared.state.Rest.{Rest}
-use Rattle.device.specs.Answer.{is_done}
+use Rattle.causes.specs.Causes.{is_done}
 use Rattle.loader.specs.Memory.{is_whole}
 use Rattle.registers.specs.Calls.{Call, tick, write, tag, download, after, called, from, machine0, step}
 use Rattle.device.specs.Map.{decode_of, kept, used_bits}

@@ -40,9 +40,9 @@ use Rattle.device.specs.declared.map.Status.TheVariants.{Count}
 use Rattle.device.specs.declared.state.Common.{Common}
 use Rattle.device.specs.declared.state.Crate.{Crate}
 use Rattle.device.specs.declared.state.Rest.{Rest}
-use Rattle.device.specs.declared.answer.Refusal.{Refusal}
-use Rattle.device.specs.declared.answer.Refusal.TheVariants.{Address}
-use Rattle.device.specs.Answer.{Answer, is_done}
+use Rattle.causes.specs.declared.Cause.{Cause}
+use Rattle.causes.specs.declared.Cause.TheVariants.{Address}
+use Rattle.causes.specs.Causes.{Answer, is_done}
 use Rattle.device.proofs.Found.{found}
 use Rattle.registers.specs.Calls.{Call, tick, write, tag, download, after, answer, called, call_answer, download_answer, machine0, step}
 use Rattle.interlocks.specs.Interlock.{interlocks, other_signals, output_count, selected, signals, trips, trips_by}
@@ -144,7 +144,7 @@ write_in m o w = option_map_or (λ (r : Register). write_at m r w) o m
 abbrev answer_in : Common → Option Register → ℕ → Answer
 answer_in cm o w = option_map_or (λ (r : Register). write_answer cm r w) o (Err Address)
 
-abbrev read_in : Machine → Option Register → Result ℕ Refusal
+abbrev read_in : Machine → Option Register → Result ℕ Cause
 read_in m o = option_map_or (λ (r : Register). Ok (word_in m r)) o (Err Address)
 
 written : (m : Machine) → length m.memory ≡ 16384 → (a w : ℕ) → step m (write a w) ≡ write_in m (decode_of a) w

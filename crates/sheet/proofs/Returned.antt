@@ -10,9 +10,9 @@ use Rattle.std.proofs.Common.{Ok, Result, Some}
 use Rattle.words.specs.Word.{bit}
 use Rattle.loader.specs.declared.loader.Request.{Request}
 use Rattle.loader.specs.Memory.{is_whole}
-use Rattle.device.specs.declared.answer.Refusal.{Refusal}
+use Rattle.causes.specs.declared.Cause.{Cause}
 use Rattle.device.specs.declared.state.Crate.{Crate}
-use Rattle.device.specs.Answer.{Answer, is_done}
+use Rattle.causes.specs.Causes.{Answer, is_done}
 use Rattle.interlocks.specs.declared.scan.OutputScan.{OutputScan}
 use Rattle.interlocks.specs.Interlock.{trips}
 use Rattle.interlocks.specs.Scan.{scan_of}
@@ -86,31 +86,31 @@ module _ (l : List Act) (n : Machine) (h : Rehearsed l n) where
   code_finishes x q made a k back more = grind (arith, finishes_from)
 
   -- what a read after the list returns
-  pub code_read : (a : ℕ) (q : Result ℕ Refusal) → Looked n a q → q ≡ read_of (after (list_of l)) a
+  pub code_read : (a : ℕ) (q : Result ℕ Cause) → Looked n a q → q ≡ read_of (after (list_of l)) a
   code_read a q look = look ∙ ap (λ (k : Machine). read_of k a) (rehearsed l n h)
 
   -- a read of a raw count
-  pub code_raw_reads : (j : ℕ) → j < 108 → (q : Result ℕ Refusal) → Looked n (0x1300 + j) q → q ≡ Ok (low_first j (raw_count (j / 2) (list_of l)))
+  pub code_raw_reads : (j : ℕ) → j < 108 → (q : Result ℕ Cause) → Looked n (0x1300 + j) q → q ≡ Ok (low_first j (raw_count (j / 2) (list_of l)))
   code_raw_reads j b q look = code_read (0x1300 + j) q look ∙ raw_reads j b (list_of l)
 
   -- what a scan after the list returns
-  pub code_scan : (q : Result (List OutputScan) Refusal) → Scanned n q → q ≡ scan_of (after (list_of l))
+  pub code_scan : (q : Result (List OutputScan) Cause) → Scanned n q → q ≡ scan_of (after (list_of l))
   code_scan q scan = scan ∙ ap scan_of (rehearsed l n h)
 
   -- and the words that it read make an output 0 where its level is 0
-  pub code_scan_ends : (q : Result (List OutputScan) Refusal) → Scanned n q → (o : ℕ) → o < 6 → (scan_at q o).level ≡ false →
+  pub code_scan_ends : (q : Result (List OutputScan) Cause) → Scanned n q → (o : ℕ) → o < 6 → (scan_at q o).level ≡ false →
       trips n.state o (scan_at q o).words ≡ true
   code_scan_ends q scan o b = grind (arith, rehearsed, full_after, scan_ends)
 
   -- a write that `write` accepted, and a read after it
   pub code_read_back : (a w : ℕ) (answered : Answer) (k : Machine) → Returned n (write a w) answered k → answered ≡ Ok tt →
-      (q : Result ℕ Refusal) → Looked k a q → q ≡ Ok (kept_at a w)
+      (q : Result ℕ Cause) → Looked k a q → q ≡ Ok (kept_at a w)
   code_read_back a w answered k back e q look = grind (arith, rehearsed, read_back)
 
   -- two reads of another register, before a write and after it
   pub code_read_other : (a w b : ℕ) → (decode_of a ≡ decode_of b → ⊥) → follows_at a b ≡ false →
-      (p : Result ℕ Refusal) → Looked n b p → (answered : Answer) (k : Machine) → Returned n (write a w) answered k →
-      (q : Result ℕ Refusal) → Looked k b q → q ≡ p
+      (p : Result ℕ Cause) → Looked n b p → (answered : Answer) (k : Machine) → Returned n (write a w) answered k →
+      (q : Result ℕ Cause) → Looked k b q → q ≡ p
   code_read_other a w b d f p before answered k back q look = grind (arith, rehearsed, read_other)
 
 -- two rehearsals with the same own part for c: c shows the same
@@ -129,17 +129,17 @@ pub code_refused : (m : Machine) (x : Call) (a : Answer) (n : Machine) → Retur
 code_refused m x a n back e = back.1 ∙ refused m x (sym (ap is_done back.0) ∙ e)
 
 -- the levels of a scan are the bits of a read of 0x0719, for every crate and memory
-pub code_scan_level : (m : Machine) (q : Result (List OutputScan) Refusal) → Scanned m q → (p : Result ℕ Refusal) → Looked m 0x0719 p →
+pub code_scan_level : (m : Machine) (q : Result (List OutputScan) Cause) → Scanned m q → (p : Result ℕ Cause) → Looked m 0x0719 p →
     (o : ℕ) → o < 6 → (scan_at q o).level ≡ bit (word_shown p) o
 code_scan_level m q scan p look o b = rw (scan, look) (scan_level m o b)
 
 -- and no fewer of the first words than a scan read make an output 0
-pub code_scan_least : (m : Machine) (q : Result (List OutputScan) Refusal) → Scanned m q → (o : ℕ) → o < 6 →
+pub code_scan_least : (m : Machine) (q : Result (List OutputScan) Cause) → Scanned m q → (o : ℕ) → o < 6 →
     (w : ℕ) → w < (scan_at q o).words → trips m.state o w ≡ false
 code_scan_least m q scan o b = rw scan (scan_least m o b)
 
 -- and all are read where its level is 1
-pub code_scan_whole : (m : Machine) (q : Result (List OutputScan) Refusal) → Scanned m q → (o : ℕ) → o < 6 → (scan_at q o).level ≡ true →
+pub code_scan_whole : (m : Machine) (q : Result (List OutputScan) Cause) → Scanned m q → (o : ℕ) → o < 6 → (scan_at q o).level ≡ true →
     (scan_at q o).words ≡ 22
 code_scan_whole m q scan o b = rw scan (scan_whole m o b)
 

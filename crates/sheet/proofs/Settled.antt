@@ -27,7 +27,7 @@ use Rattle.loader.specs.Loader.{is_beyond}
 use Rattle.loader.specs.Memory.{loaded}
 use Rattle.device.specs.declared.map.Register.TheVariants.{Control, Enable, Input, Key, Timeout, Word}
 use Rattle.device.specs.declared.state.Common.{Common}
-use Rattle.device.specs.Answer.{is_done}
+use Rattle.causes.specs.Causes.{is_done}
 use Rattle.device.specs.Map.{kept}
 use Rattle.device.specs.State.{with_registers}
 use Rattle.registers.specs.Calls.{download_answer}

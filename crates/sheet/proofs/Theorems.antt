@@ -10,7 +10,7 @@ use Rattle.std.proofs.Common.{Ok, Some, None}
 use Rattle.words.specs.Word.{bit}
 use Rattle.loader.specs.declared.loader.Request.{Request}
 use Rattle.loader.specs.Memory.{is_whole}
-use Rattle.device.specs.Answer.{is_done}
+use Rattle.causes.specs.Causes.{is_done}
 use Rattle.registers.specs.Calls.{Call, write, accepted_ticks, after, answer, from, left_by_refusal, refusals, step}
 use Rattle.device.specs.Map.{decode_of, kept_at}
 use Rattle.interlocks.specs.Interlock.{trips}

@@ -5,7 +5,7 @@ use Rattle.loader.specs.declared.loader.Reload.{Reload}
 use Rattle.loader.specs.declared.loader.Request.{Request}
 use Rattle.loader.specs.Loader.{request0, request_for}
 use Rattle.device.specs.declared.state.Common.{Common}
-use Rattle.device.specs.Answer.{is_done}
+use Rattle.causes.specs.Causes.{is_done}
 use Rattle.registers.specs.Calls.{Call, tick, write, tag, download, step}
 use Rattle.device.specs.State.{Machine}
 use Rattle.tagging.specs.Tag.{command_of, events_on, right_key}

@@ -2,9 +2,9 @@
 -- functions, by the contracts of those functions alone.
 use Rattle.std.specs.Prelude.{ℕ, true, false, List, [], ◌∷◌, ◌++◌, ◌≡◌, Result}
 use Rattle.loader.specs.Memory.{is_whole}
-use Rattle.device.specs.declared.answer.Refusal.{Refusal}
+use Rattle.causes.specs.declared.Cause.{Cause}
 use Rattle.device.specs.declared.state.Crate.{Crate}
-use Rattle.device.specs.Answer.{Answer}
+use Rattle.causes.specs.Causes.{Answer}
 use Rattle.interlocks.specs.declared.scan.OutputScan.{OutputScan}
 use Rattle.interlocks.specs.Scan.{scan_of}
 use Rattle.registers.specs.Calls.{Call, answer, from, machine0, powered, powered_memory, step}
@@ -25,11 +25,11 @@ abbrev pub Returned : Machine → Call → Answer → Machine → Type 0
 Returned m x a n = (a ≡ answer m x) × (n ≡ step m x)
 
 -- a `read` of address a returned q
-abbrev pub Looked : Machine → ℕ → Result ℕ Refusal → Type 0
+abbrev pub Looked : Machine → ℕ → Result ℕ Cause → Type 0
 Looked m a q = q ≡ read_of m a
 
 -- a `scan` returned q
-abbrev pub Scanned : Machine → Result (List OutputScan) Refusal → Type 0
+abbrev pub Scanned : Machine → Result (List OutputScan) Cause → Type 0
 Scanned m q = q ≡ scan_of m
 
 -- a `run` of trace t returned this report and left crate s and this memory
@@ -47,8 +47,8 @@ pub data Act : Type 0 where
 unfoldable pub Went : Machine → List Act → Machine → Type 0
 Went m [] n = n ≡ m
 Went m (calling x ∷ l) n = (a : Answer) × (k : Machine) × Returned m x a k × Went k l n
-Went m (reading a ∷ l) n = (q : Result ℕ Refusal) × Looked m a q × Went m l n
-Went m (scanning ∷ l) n = (q : Result (List OutputScan) Refusal) × Scanned m q × Went m l n
+Went m (reading a ∷ l) n = (q : Result ℕ Cause) × Looked m a q × Went m l n
+Went m (scanning ∷ l) n = (q : Result (List OutputScan) Cause) × Scanned m q × Went m l n
 Went m (tracing t budget ∷ l) n =
     (s : Crate) × (report : Report) × (memory : List ℕ) × Ran m t budget s report memory × Went (machine s memory) l n
 

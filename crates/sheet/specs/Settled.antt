@@ -11,7 +11,7 @@ use Rattle.gates.specs.Gate.{gate_at, gate_bits, mode, prepare, recover}
 use Rattle.lines.specs.Lines.{gate_count}
 use Rattle.loader.specs.Loader.{is_beyond}
 use Rattle.device.specs.declared.map.Register.TheVariants.{Control, Enable, Input, Key, Timeout, Word}
-use Rattle.device.specs.Answer.{is_done}
+use Rattle.causes.specs.Causes.{is_done}
 use Rattle.device.specs.Map.{kept}
 use Rattle.registers.specs.Calls.{Call, download_answer}
 use Rattle.tagging.specs.Tag.{command_of, events_on, right_key}

@@ -14,7 +14,7 @@ use Rattle.loader.specs.Loader.{takes}
 use Rattle.loader.specs.Memory.{loaded}
 use Rattle.device.specs.declared.map.Register.TheVariants.{Input, Timeout, Word}
 use Rattle.device.specs.declared.state.Common.{Common}
-use Rattle.device.specs.Answer.{is_done}
+use Rattle.causes.specs.Causes.{is_done}
 use Rattle.registers.specs.Calls.{download_answer}
 use Rattle.device.specs.Map.{kept}
 use Rattle.device.specs.State.{common0}

@@ -7,7 +7,7 @@ use Rattle.gates.specs.Gate.{each_gate, with_prepare_pulse, with_recover_pulse}
 use Rattle.device.specs.declared.state.Common.{Common}
 use Rattle.device.specs.declared.state.Crate.{Crate}
 use Rattle.device.specs.declared.state.Events.{Events}
-use Rattle.device.specs.Answer.{Answer, is_done}
+use Rattle.causes.specs.Causes.{Answer, is_done}
 use Rattle.device.specs.State.{events_of, with_common, with_counters, with_events, with_gates, with_rest}
 use Rattle.writing.specs.Write.{dataset_in, request_answer, requested}
 

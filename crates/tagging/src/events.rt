@@ -3,7 +3,8 @@ ghost use Rattle.std.specs.Prelude.{◌≡◌};
 ghost use Rattle.tagging.specs.Command.{command_in};
 ghost use Rattle.tagging.specs.Tag.{code_of, key_of, events_on, commanded, command_answer, tag_of, tag_answer};
 
-use device::{Common, Crate, Refusal};
+use causes::Cause;
+use device::{Common, Crate};
 use gates::Gate;
 use loader::Request;
 use words::Field;
@@ -61,7 +62,7 @@ fn events_on(cm: &Common) -> bool
 
 // A tag's command runs; a reload may be refused.
 #[tactic(auto, unfolding(crate::specs::Tag::commanded, crate::specs::Tag::tag_request, writing::specs::Write::requested))]
-fn run_command(s: &mut Crate, tag: EventTag) -> Result<(), Refusal>
+fn run_command(s: &mut Crate, tag: EventTag) -> Result<(), Cause>
     ensures { (result ≡ command_answer s.old.common tag.code) × (s.new ≡ commanded s.old tag.code) }
 {
     match tag.command() {
@@ -80,7 +81,7 @@ fn run_command(s: &mut Crate, tag: EventTag) -> Result<(), Refusal>
 
 // What a tag answers and does: with events off nothing; 0x0900 and 0x0901 take it, and with the right key 0x0902 its code, and its command runs.
 #[tactic(auto, using(crate::proofs::Codes::commanded_code, crate::proofs::Codes::answer_code), unfolding(crate::specs::Tag::tag_of, crate::specs::Tag::tag_answer))]
-pub fn tag_crate(s: &mut Crate, t: u32) -> Result<(), Refusal>
+pub fn tag_crate(s: &mut Crate, t: u32) -> Result<(), Cause>
     ensures { (result ≡ tag_answer s.old.common t) × (s.new ≡ tag_of s.old t) }
 {
     if !events_on(&s.common) {

@@ -21,7 +21,7 @@ use Rattle.registers.proofs.Lists.{from_append, full_from, refusals_append, refu
 use Rattle.records.specs.declared.Record.TheVariants.{Ticks, Write, Tag}
 use Rattle.records.specs.declared.Stop.{Stop}
 use Rattle.records.specs.declared.Stop.TheVariants.{End, Spent, Refused}
-use Rattle.records.specs.declared.Cause.TheVariants.{Memory}
+use Rattle.causes.specs.declared.Cause.TheVariants.{Memory}
 use Rattle.trace.specs.Passed.{calls_in, calls_of, passed_from, passed_in}
 use Rattle.records.specs.Records.{Found, record_at}
 use Rattle.trace.specs.Run.{Run, begun, by_record, call_in, machine_of, once_of, passes, repeated, run_from, run_of, stops_by, ticks_in}

@@ -19,7 +19,7 @@ use Rattle.lists.specs.Table.{table_from, tabulate}
 use Rattle.loader.specs.Memory.{is_whole}
 use Rattle.registers.specs.Calls.{Call, tick, write, tag, answer, called, from, is_refused, step}
 use Rattle.device.specs.declared.state.Crate.{Crate}
-use Rattle.device.specs.Answer.{Answer, is_done}
+use Rattle.causes.specs.Causes.{Answer, is_done}
 use Rattle.device.specs.State.{Machine, machine}
 use Rattle.lines.specs.Lines.{bad_levels}
 use Rattle.records.specs.declared.Record.{Record}

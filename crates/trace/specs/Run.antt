@@ -12,7 +12,7 @@ use Rattle.records.specs.declared.Record.TheVariants.{Ticks, Write, Tag}
 use Rattle.trace.specs.declared.Report.{Report}
 use Rattle.records.specs.declared.Stop.{Stop}
 use Rattle.records.specs.declared.Stop.TheVariants.{End, Spent, Refused}
-use Rattle.records.specs.declared.Cause.TheVariants.{Memory}
+use Rattle.causes.specs.declared.Cause.TheVariants.{Memory}
 use Rattle.records.specs.Records.{Found, next_at, record_at}
 
 -- "stop cause, offset of the next record, ticks, records passed (refused ones included), records refused"

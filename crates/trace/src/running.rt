@@ -11,9 +11,10 @@ ghost use Rattle.trace.specs.Run.{run as run_run};
 ghost use Rattle.trace.specs.Sound.{Sound};
 
 use crate::Report;
+use causes::Cause;
 use device::Crate;
 use lines::Levels;
-use records::{Cause, Record, Stop};
+use records::{Record, Stop};
 
 // A leap costs about two ticks, so it is tried where at least twice that are left.
 const WORTH: u64 = 4;

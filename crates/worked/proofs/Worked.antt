@@ -17,7 +17,7 @@ use Rattle.counters.specs.Counter.{counter0, counter_step, with_count}
 use Rattle.gates.specs.Gate.{gate_step, state_number}
 use Rattle.lines.specs.Raw.{raw_step}
 use Rattle.device.specs.declared.map.Register.{Register}
-use Rattle.device.specs.Answer.{number_of}
+use Rattle.causes.specs.Causes.{number_of}
 use Rattle.registers.specs.Calls.{Call, tick, write, tag, download, answer, after, step, machine0, powered, powered_memory}
 use Rattle.device.specs.Map.{decode_of, used_bits}
 use Rattle.reading.specs.Read.{low_first, read_of}
@@ -30,7 +30,7 @@ use Rattle.trace.specs.declared.Report.{Report}
 use Rattle.records.specs.declared.Stop.{Stop}
 use Rattle.records.specs.declared.Stop.TheVariants.{End, Spent, Refused}
 use Rattle.trace.specs.Run.{run_of}
-use Rattle.records.specs.Stops.{cause_number}
+use Rattle.causes.specs.Causes.{cause_number}
 use Rattle.registers.proofs.Cases.{reads, reads_bit, answers, read_answers, often, pulses, counting, triggered, asked, asked_often}
 
 -- ---- gates: a gate in a state with a timer, mode bit, prepare signal, last prepare signal and recover signal

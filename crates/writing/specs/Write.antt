@@ -8,14 +8,14 @@ use Rattle.counters.specs.Counter.{clear_counters, counter_at, reset_on, with_in
 use Rattle.gates.specs.Gate.{each_gate, gate_at, with_mode, with_prepare, with_recover, with_timeout}
 use Rattle.loader.specs.Loader.{Queue, is_beyond, is_full, pushed, request_for}
 use Rattle.watchdogs.specs.Watchdog.{reset_watchdogs}
-use Rattle.device.specs.declared.answer.Refusal.TheVariants.{ReadOnly, Dataset, Full}
+use Rattle.causes.specs.declared.Cause.TheVariants.{ReadOnly, Dataset, Full}
 use Rattle.device.specs.declared.map.Register.{Register}
 use Rattle.device.specs.declared.map.Register.TheVariants.{Readout, Other, Control, Mode, Timeout, Key, Enable, Reload, Prepare, Recover, Input, Group, Word}
 use Rattle.device.specs.declared.map.Setting.{Setting}
 use Rattle.device.specs.declared.map.Setting.TheVariants.{Mask, WatchdogTimeout, WatchdogReset, Selection}
 use Rattle.device.specs.declared.state.Common.{Common}
 use Rattle.device.specs.declared.state.Rest.{Rest}
-use Rattle.device.specs.Answer.{Answer, is_done}
+use Rattle.causes.specs.Causes.{Answer, is_done}
 use Rattle.device.specs.Map.{kept}
 use Rattle.device.specs.State.{Machine, rest_of, with_common, with_counters, with_gates, with_groups, with_memory, with_queue, with_registers, with_rest, with_state}
 

@@ -3,23 +3,24 @@ ghost use Rattle.std.specs.Prelude.{◌≡◌};
 ghost use Rattle.bools.specs.Pick.{pick};
 ghost use Rattle.words.specs.Word.{lowest};
 ghost use Rattle.loader.specs.Loader.{pushed};
-ghost use Rattle.device.specs.Answer.{is_done};
+ghost use Rattle.causes.specs.Causes.{is_done};
 ghost use Rattle.device.specs.Map.{selection_bits};
 ghost use Rattle.device.specs.State.{machine, with_common, with_counters, with_queue};
 ghost use Rattle.writing.specs.Write.{request_answer, triggers, reload_answer, reload_write, control_write, with_selected, rest_write, write_answer, reset_by, write_at};
 
-use device::{Common, Crate, Refusal, Register, Rest, Setting};
+use causes::Cause;
+use device::{Common, Crate, Register, Rest, Setting};
 use gates::Gate;
 use loader::{Dataset, Request};
 
 // A request enters the queue, or is refused: dataset above 31, then 16 waiting.
 #[tactic(auto, using(bools::proofs::Tests::tests), unfolding(crate::specs::Write::request_answer))]
-pub fn request(cm: &mut Common, request: Request) -> Result<(), Refusal>
+pub fn request(cm: &mut Common, request: Request) -> Result<(), Cause>
     ensures { (result ≡ request_answer cm.old.queue request.dataset) × (cm.new ≡ pick (is_done (request_answer cm.old.queue request.dataset)) (with_queue cm.old (pushed cm.old.queue request)) cm.old) }
 {
-    Dataset::new(request.dataset.into()).ok_or(Refusal::Dataset)?;
+    Dataset::new(request.dataset.into()).ok_or(Cause::Dataset)?;
     if cm.queue.is_full() {
-        return Err(Refusal::Full);
+        return Err(Cause::Full);
     }
     cm.queue.push(request);
     Ok(())
@@ -34,7 +35,7 @@ fn triggers(word: u16, cm: &Common) -> bool
 
 // A write to 0x0A02: a refused request stores nothing.
 #[tactic(auto, unfolding(crate::specs::Write::reload_write, crate::specs::Write::reload_answer, crate::specs::Write::requested, device::specs::Map::kept))]
-fn write_reload(cm: &mut Common, word: u16) -> Result<(), Refusal>
+fn write_reload(cm: &mut Common, word: u16) -> Result<(), Cause>
     ensures { (result ≡ reload_answer word cm.old) × (cm.new ≡ reload_write word cm.old) }
 {
     if triggers(word, cm) {
@@ -96,16 +97,11 @@ fn write_control(s: &mut Crate, word: u16)
 
 // What a write answers, and does to the crate and the memory; a refused one leaves both.
 #[tactic(auto, using(lists::proofs::Sweep::get_d_any), unfolding(crate::specs::Write::write_at, crate::specs::Write::write_answer, crate::specs::Write::key_write, crate::specs::Write::enable_write, device::specs::Map::kept, counters::specs::Counter::counter_at, gates::specs::Gate::gate_at))]
-pub fn write_at(
-    s: &mut Crate,
-    mem: &mut [u16; 16384],
-    r: Register,
-    word: u16,
-) -> Result<(), Refusal>
+pub fn write_at(s: &mut Crate, mem: &mut [u16; 16384], r: Register, word: u16) -> Result<(), Cause>
     ensures { (result ≡ write_answer s.old.common r word) × (machine s.new mem.new ≡ write_at (machine s.old mem.old) r word) }
 {
     match r {
-        Register::Readout(_) => return Err(Refusal::ReadOnly),
+        Register::Readout(_) => return Err(Cause::ReadOnly),
         Register::Other(setting) => write_setting(&mut s.rest, setting, word),
         Register::Control => write_control(s, word),
         Register::Mode => gates::change_gates(&mut s.gates, word, Gate::with_mode),

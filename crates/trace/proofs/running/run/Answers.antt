@@ -6,7 +6,7 @@ use mathlib.Core.Path.{◌≡◌, refl, sym, ap, subst, ◌∙◌}
 use borrow.Author.Tests.{ne_eqb}
 use lib.ListN.{length}
 use Rattle.device.specs.State.{machine}
-use Rattle.records.specs.declared.Cause.TheVariants.{Memory}
+use Rattle.causes.specs.declared.Cause.TheVariants.{Memory}
 use Rattle.records.specs.declared.Stop.TheVariants.{Refused}
 use Rattle.trace.specs.declared.Report.{Report}
 use Rattle.trace.specs.Run.{Run, once_of, progress_of, run, run_of, stopped}
