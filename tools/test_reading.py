@@ -1,6 +1,7 @@
 """Follows every relative link of the pages at the top and in docs: `python3 tools/test_reading.py` from the project's folder.
 
-The file is there. Where a link names a line (`#L42`) and its text is a name in code quotes, that line has the name."""
+The file is there. Where a link names a line (`#L42`) and its text is a name in code quotes, that line has the name. What docs/TRACEABILITY.md
+names by package, file and name, and the must-fail edits that it names, are there too."""
 import re
 import tempfile
 import unittest
@@ -10,6 +11,9 @@ ROOT = Path(__file__).parent.parent
 LINK = re.compile(r"\[([^\]]*)\]\(([^)\s]+)\)")
 NAME = re.compile(r"`([^`]+)`")
 LINE = re.compile(r"L(\d+)")
+# `writing/Write.write_at`, and `must-fail writing/some_edit, reading/another`
+DEFINED = re.compile(r"`([a-z_]+)/([A-Z]\w*)\.(?!antt\b)(\w+)`")
+EDITS = re.compile(r"must-fail ((?:[a-z_]+/\w+)(?:, [a-z_]+/\w+)*)")
 # Another site, or a place of the same page.
 NOT_RELATIVE = re.compile(r"[a-z]+:|#")
 
@@ -59,10 +63,27 @@ def faults(page, shown):
     return found
 
 
+def is_defined(package, file, name):
+    """Whether a file of specs/ or proofs/ has this name."""
+    paths = [ROOT / "crates" / package / part / f"{file}.antt" for part in ("specs", "proofs")]
+    return any(is_named(path.read_text(encoding="utf-8"), name) for path in paths if path.exists())
+
+
+def not_there(text):
+    """The definitions and must-fail edits that a page names and that are not there."""
+    names = sorted(set(DEFINED.findall(text)) - {("package", "File", "name")})
+    edits = sorted({edit for found in EDITS.findall(text) for edit in found.split(", ")})
+    return [f"{package}/{file}.{name}" for package, file, name in names if not is_defined(package, file, name)] + [
+        edit for edit in edits if not (ROOT / "crates" / edit.replace("/", "/must-fail/")).with_suffix(".edit").exists()]
+
+
 class Reading(unittest.TestCase):
     def test_every_link_leads_there(self):
         found = [what for page in documents() for what in faults(page, page.relative_to(ROOT))]
         self.assertFalse(found, "\n" + "\n".join(found))
+
+    def test_all_that_is_traced_is_there(self):
+        self.assertEqual(not_there((ROOT / "docs" / "TRACEABILITY.md").read_text(encoding="utf-8")), [])
 
     def test_each_demand_has_its_link(self):
         beginning = (ROOT / "docs" / "READING.md").read_text(encoding="utf-8").split("\n## ")[0]
@@ -84,6 +105,10 @@ class Followed(unittest.TestCase):
     def test_good_links(self):
         self.assertEqual(self.found("[`isolation`](laws#L3), [laws](laws#L1), [page](page.md#head)"), [])
         self.assertEqual(self.found("[elsewhere](https://there/page.md), [here](#L9)"), [])
+
+    def test_a_name_that_is_not_there(self):
+        text = "`device/Map.decode_of` `device/Map.gone` must-fail lines/gone, lines/ticks_all_refused; `lines/specs/Lines.antt`"
+        self.assertEqual(not_there(text), ["device/Map.gone", "lines/gone"])
 
     def test_a_file_that_is_missing(self):
         found = self.found("first\n[x](none.md) and [`y`](none#L1)")
