@@ -32,7 +32,7 @@ use Rattle.sheet.specs.Scans.{scan_at}
 use Rattle.sheet.specs.Settled.{SettledCut, settled, settled_part_of}
 use Rattle.sheet.specs.Sheet.{sheet_after, sheet_shows}
 use Rattle.sheet.specs.Shows.{shows}
-use Rattle.sheet.proofs.Finishes.{full_after}
+use Rattle.sheet.proofs.Sizes.{full_after}
 use Rattle.sheet.proofs.Isolation.{holds_begin}
 use Rattle.sheet.proofs.Theorems.{alike, alike_cut, alike_settled, alike_settled_cut, finishes, isolation_each, isolation_within, raw_alike, raw_reads, reachable, read_back, read_other, refused, run_records, run_refusals, run_sound, run_stops, run_ticks, scan_ends, scan_least, scan_level, scan_whole, stands}
 use Rattle.sheet.proofs.Kept.{holds_all}

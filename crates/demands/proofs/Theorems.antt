@@ -26,7 +26,7 @@ use Rattle.sheet.specs.Requests.{Stands, finished, request_made, stand_after, wa
 use Rattle.sheet.specs.Settled.{SettledCut, settled, settled_part_of}
 use Rattle.sheet.specs.Sheet.{sheet_after, sheet_shows}
 use Rattle.sheet.specs.Shows.{shows}
-use Rattle.sheet.proofs.Finishes.{full_after}
+use Rattle.sheet.proofs.Sizes.{full_after}
 use Rattle.sheet.proofs.Theorems.{run_records, run_refusals, run_sound, run_ticks}
 use Rattle.trace.specs.declared.Report.{Report}
 use Rattle.trace.specs.Passed.{calls_in, passed_in}

@@ -1,5 +1,6 @@
 pub mod Cases
 pub mod Computing
+pub mod Keeping
 pub mod Lists
 pub mod Overflows
 pub mod Refused

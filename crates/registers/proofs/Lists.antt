@@ -30,11 +30,6 @@ refusals_append m [] k = sym (zero-add (refusals m k))
 refusals_append m (x ∷ l) k =
     rw (refusals_append (step m x) l k) (sym (add_assoc (bit_of (is_refused m x)) (refusals (step m x) l) (refusals (from (step m x) l) k)))
 
-pub full_from : (m : Machine) → length m.memory ≡ 16384 → (l : List Call) → length (from m l).memory ≡ 16384
-unfolding from
-full_from m h [] = h
-full_from m h (x ∷ l) = full_from (step m x) (full m h x) l
-
 -- a tick at levels of lines that exist is accepted, as often as it is repeated
 module _ (inputs gates : ℕ) (good : bad_levels inputs gates ≡ false) where
   tick_accepted : (m : Machine) → length m.memory ≡ 16384 → is_refused m (tick inputs gates) ≡ false

@@ -12,33 +12,29 @@ use lib.Seq.{get_or-append_seam, get_or-drop}
 use Rattle.std.proofs.lemmas.Grind.{common_steps}
 use Rattle.std.proofs.lemmas.Bool.Decides.{nat_tests}
 use Rattle.std.proofs.Common.{Option, Some, None}
-use Rattle.std.specs.Option.{option_map_or}
-use Rattle.bools.proofs.Tests.{both, cases}
+use Rattle.bools.proofs.Tests.{cases}
 use Rattle.std.proofs.lemmas.Bool.{and_parts}
-use Rattle.lists.proofs.Tables.{length_tabulate}
 use Rattle.loader.specs.declared.loader.Reload.{Reload as Reloading}
 use Rattle.loader.specs.declared.loader.Request.{Request}
 use Rattle.loader.specs.Loader.{Queue, dropped, is_empty, loader_step, oldest, pushed, queue_step, request0, request_for}
-use Rattle.device.specs.declared.map.Register.{Register}
-use Rattle.device.specs.declared.map.Register.TheVariants.{Control, Key, Enable, Reload}
+use Rattle.device.specs.declared.map.Register.TheVariants.{Reload}
 use Rattle.device.specs.declared.state.Common.{Common}
 use Rattle.causes.specs.Causes.{is_done}
-use Rattle.registers.specs.Calls.{Call, tick, write, tag, download, accepted_ticks, after, called, download_answer, from, machine0, step, tick_one}
-use Rattle.device.specs.Map.{decode_of, kept}
-use Rattle.device.proofs.Found.{found}
-use Rattle.device.specs.State.{Machine, memory0, power_up, with_state}
+use Rattle.registers.specs.Calls.{Call, tick, write, tag, accepted_ticks, after, called, from, step, tick_one}
+use Rattle.device.specs.Map.{kept}
+use Rattle.device.specs.State.{Machine, power_up}
 use Rattle.tagging.specs.Tag.{command_of, commanded, events_on, right_key, tag_of, tag_request}
 use Rattle.ticking.specs.Tick.{common_tick, tick_of}
 use Rattle.lines.specs.Lines.{bad_levels}
-use Rattle.writing.specs.Write.{control_write, dataset_in, enable_write, group_in, key_write, on_common, reload_answer, reload_write, request_answer, requested, triggers, with_reload, write_at}
-use Rattle.registers.proofs.Lists.{full_from}
-use Rattle.registers.proofs.Whole.{full, step_called}
+use Rattle.writing.specs.Write.{control_write, dataset_in, enable_write, group_in, key_write, reload_answer, reload_write, request_answer, requested, triggers, with_reload, write_at}
+use Rattle.registers.proofs.Keeping.{Change, Keeps, Untimed, after_keeps, asked, called_keeps, changed, step_keeps, timed, written}
+use Rattle.registers.proofs.Whole.{Whole, full, step_called}
 use Rattle.sheet.specs.Reachable.{CommonInRange, LoaderInRange}
 use Rattle.sheet.specs.Requests.{Stand, Stands, finished, loading, made_by, past, queued, request_made, stand_after, stand_step, stand_tick, ticks_at_work, ticks_left, waits, works}
 use Rattle.sheet.proofs.Addresses.{decode_reload}
-use Rattle.sheet.proofs.Changes.{list_keeps, tag_by}
 use Rattle.sheet.proofs.InRange.{taken}
-use Rattle.sheet.proofs.Reached.{common_start, common_tick_in, control_in, enable_in, key_in, reload_in, tag_request_in}
+use Rattle.sheet.proofs.Reached.{common_start, common_tick_in, range_changed, range_keeps, reload_in}
+use Rattle.sheet.proofs.Sizes.{full_after}
 
 -- ---- a tick of the loader and the queue, at a request that stands somewhere
 
@@ -139,82 +135,64 @@ tag_still t cm =
     (λ e. rw e (record { loader = refl; queue = more _ (taken cm.queue (dataset_in t) e).1 }))
     (λ e. rw e (record { loader = refl; queue = same }))
 
--- a call other than an accepted tick leaves the request where it stands, and every call keeps the ranges
-abbrev Apart : Machine → Machine → Type 0
-Apart m m' = Still m.state.common m'.state.common × (CommonInRange m.state.common → CommonInRange m'.state.common)
-
-unmoved : (m : Machine) → Apart m m
-unmoved m = (record { loader = refl; queue = same }, λ h. h)
-
-write_apart : (m : Machine) (r : Register) (w : ℕ) → Apart m (write_at m r w)
-unfolding write_at
-write_apart m Control w = (unfold control_write in (record { loader = refl; queue = same }), control_in w m.state.common)
-write_apart m Key w = (unfold key_write in (record { loader = refl; queue = same }), key_in w m.state.common)
-write_apart m Enable w = (unfold enable_write in (record { loader = refl; queue = same }), enable_in w m.state.common)
-write_apart m Reload w = (reload_still w m.state.common, reload_in w m.state.common)
-write_apart m r w = unmoved m
-
-apart_at : (m : Machine) (a w : ℕ) → Apart m (option_map_or (λ (r : Register). write_at m r w) (decode_of a) m)
-apart_at m a w = found (Apart m) (λ r. write_at m r w) m (unmoved m) (λ r. write_apart m r w) (decode_of a)
-
-tag_apart : (m : Machine) (t : ℕ) → Apart m (with_state m (tag_of m.state t))
-tag_apart m t =
-    tag_by (λ s. Apart m (with_state m s)) m.state t (unmoved m) (unmoved m) (tag_still t m.state.common, tag_request_in t m.state.common)
-    (unmoved m) (unmoved m) (unmoved m)
+still_changed : (m : Machine) (x : Change) → Still m.state.common (changed m x).state.common
+unfolding write_at control_write key_write enable_write
+still_changed m (written Reload w) = reload_still w m.state.common
+still_changed m (asked t) = tag_still t m.state.common
+still_changed m x = record { loader = refl; queue = same }
 
 -- ---- along a list
 
-abbrev Full : Machine → Type 0
-Full m = length m.memory ≡ 16384
-
 -- what holds on the way: the request stands, and the accepted ticks left are those at the start less those made
-pub record Due (m : Machine) (r : Request) (s : Stand) (n : ℕ) : Type 0 where
-  pub full : Full m
-  pub range : CommonInRange m.state.common
-  pub stands : Stands m.state.common r s
-  pub left : ticks_left m.state.common.loader s ≡ n
+pub record Due (cm : Common) (r : Request) (s : Stand) (n : ℕ) : Type 0 where
+  pub range : CommonInRange cm
+  pub stands : Stands cm r s
+  pub left : ticks_left cm.loader s ≡ n
 
-due_apart : (m m' : Machine) → Full m' → Apart m m' → (r : Request) (s : Stand) (n : ℕ) → Due m r s n → Due m' r s n
-due_apart m m' f a r s n d = record {
-  full = f;
-  range = a.1 d.range;
-  stands = stands_still m.state.common m'.state.common a.0 r s d.stands;
-  left = ap (λ (l : Option Reloading). ticks_left l s) a.0.loader ∙ d.left;
+module _ (r : Request) (s : Stand) (n : ℕ) where
+  abbrev DueIn : Machine → Type 0
+  DueIn m = Due m.state.common r s n
+
+  due_still : (cm cm' : Common) → Still cm cm' → CommonInRange cm' → Due cm r s n → Due cm' r s n
+  due_still cm cm' t h d = record {
+    range = h;
+    stands = stands_still cm cm' t r s d.stands;
+    left = ap (λ (l : Option Reloading). ticks_left l s) t.loader ∙ d.left;
+  }
+
+  due_changed : (m : Machine) → DueIn m → (x : Change) → DueIn (changed m x)
+  due_changed m d x = due_still m.state.common (changed m x).state.common (still_changed m x) (range_changed m d.range x) d
+
+  -- a call other than an accepted tick leaves the request where it stands
+  due_keeps : Keeps Untimed DueIn
+  due_keeps = record { change = due_changed; tick = λ m d inputs gates c e. timed inputs gates c e; download = λ m d k words c e. d }
+
+  due_past : (m : Machine) → DueIn m → (x : Call) → Untimed x → Due (step m x).state.common r s (n - 0)
+  due_past m d x c = rw (sub-zero n) (step_keeps due_keeps m d x c)
+
+due_tick : (cm : Common) (r : Request) (s : Stand) (n : ℕ) → Due cm r s n → Due (common_tick cm) r (stand_tick cm.loader s) (n - 1)
+due_tick cm r s n d = record {
+  range = common_tick_in cm d.range;
+  stands = stands_tick cm r s d.range.loader d.stands;
+  left = unfold common_tick in (left_tick cm r s d.range.loader d.stands ∙ ap (λ (k : ℕ). k - 1) d.left);
 }
 
-due_tick : (m : Machine) (inputs gates : ℕ) (r : Request) (s : Stand) (n : ℕ) → Due m r s n →
-    Due (with_state m (tick_of m.state m.memory inputs gates)) r (stand_tick m.state.common.loader s) (n - 1)
-unfolding tick_of
-due_tick m inputs gates r s n d = record {
-  full = d.full;
-  range = common_tick_in m.state.common d.range;
-  stands = stands_tick m.state.common r s d.range.loader d.stands;
-  left = unfold common_tick in (left_tick m.state.common r s d.range.loader d.stands ∙ ap (λ (k : ℕ). k - 1) d.left);
-}
-
--- what a call makes of the machine, where that is known to be apart
-due_call : (m : Machine) (x : Call) (r : Request) (s : Stand) (n : ℕ) → Due m r s n → Apart m (called m x) → Due (step m x) r s (n - 0)
-due_call m x r s n d a =
-    let e = step_called m d.full x in
-    rw (e, sub-zero n) (due_apart m (called m x) (rw e at (full m d.full x)) a r s n d)
-
-due_step : (m : Machine) (x : Call) (r : Request) (s : Stand) (n : ℕ) → Due m r s n → Due (step m x) r (stand_step m x s) (n - tick_one x)
-unfolding called
-due_step m (tick inputs gates) r s n d =
+due_step : (m : Machine) → Whole m → (x : Call) (r : Request) (s : Stand) (n : ℕ) → Due m.state.common r s n →
+    Due (step m x).state.common r (stand_step m x s) (n - tick_one x)
+unfolding called tick_of
+due_step m f (tick inputs gates) r s n d =
     cases (bad_levels inputs gates)
-    (λ b. rw b (due_call m (tick inputs gates) r s n d (rw b (unmoved m))))
-    (λ b. rw (b, step_called m d.full (tick inputs gates), b) (due_tick m inputs gates r s n d))
-due_step m (write a w) r s n d = due_call m (write a w) r s n d (apart_at m a w)
-due_step m (tag t) r s n d = due_call m (tag t) r s n d (tag_apart m t)
-due_step m (download k words) r s n d =
-    due_call m (download k words) r s n d (both (Apart m) (is_done (download_answer k (length words))) (unmoved m) (unmoved m))
+    (λ b. rw b (due_past r s n m d (tick inputs gates) (rw b)))
+    (λ b. rw (b, step_called m f (tick inputs gates), b) (due_tick m.state.common r s n d))
+due_step m f x r s n d = due_past r s n m d x refl
 
-due_from : (m : Machine) (l : List Call) (r : Request) (s : Stand) (n : ℕ) → Due m r s n → Due (from m l) r (stand_after m l s) (n - accepted_ticks l)
+due_from : (m : Machine) → Whole m → (l : List Call) (r : Request) (s : Stand) (n : ℕ) → Due m.state.common r s n →
+    Due (from m l).state.common r (stand_after m l s) (n - accepted_ticks l)
 unfolding from stand_after accepted_ticks
-due_from m [] r s n d = rw (sub-zero n) d
-due_from m (x ∷ l) r s n d =
+due_from m f [] r s n d = rw (sub-zero n) d
+due_from m f (x ∷ l) r s n d =
     let e : n - (tick_one x + accepted_ticks l) ≡ n - tick_one x - accepted_ticks l = omega arith in
-    rw e (due_from (step m x) l r (stand_step m x s) (n - tick_one x) (due_step m x r s n d))
+    rw e (due_from (step m x) (full m f x) l r (stand_step m x s) (n - tick_one x) (due_step m f x r s n d))
 
 -- ---- a request that is made
 
@@ -225,15 +203,13 @@ abbrev ahead : Machine → ℕ
 ahead m = length m.state.common.queue
 
 -- it stands behind those that wait
-due_pushed : (m m' : Machine) (r : Request) → Full m' → CommonInRange m.state.common → CommonInRange m'.state.common → ahead m < 16 →
-    m'.state.common.queue ≡ pushed m.state.common.queue r → m'.state.common.loader ≡ m.state.common.loader →
-    Due m' r (waits (ahead m)) (work m + 129 * (ahead m + 1))
-due_pushed m m' r f h h' free q l = record {
-  full = f;
-  range = h';
-  stands = queued (ahead m) (rw q (unfold pushed in (rw length-append (omega arith))))
-      (rw q (unfold pushed in (get_or-append_seam m.state.common.queue r [] request0)));
-  left = ap (λ (x : Option Reloading). ticks_left x (waits (ahead m))) l;
+due_pushed : (cm cm' : Common) (r : Request) → CommonInRange cm' → length cm.queue < 16 → cm'.queue ≡ pushed cm.queue r → cm'.loader ≡ cm.loader →
+    Due cm' r (waits (length cm.queue)) (ticks_at_work cm.loader + 129 * (length cm.queue + 1))
+due_pushed cm cm' r h free q l = record {
+  range = h;
+  stands = queued (length cm.queue) (rw q (unfold pushed in (rw length-append (omega arith))))
+      (rw q (unfold pushed in (get_or-append_seam cm.queue r [] request0)));
+  left = ap (λ (x : Option Reloading). ticks_left x (waits (length cm.queue))) l;
 }
 
 made_by_lem : (cm : Common) (w : ℕ) (asks : Bool) (r : Request) → made_by cm w asks ≡ Some r →
@@ -250,16 +226,19 @@ tag_made : (m : Machine) (t : ℕ) → events_on m.state.common ≡ true → rig
 unfolding tag_of commanded tag_request
 tag_made m t on key one e = rw (on, key, one, e)
 
-due_request : (m : Machine) (w : ℕ) (r : Request) (m' : Machine) → Full m' → CommonInRange m.state.common → CommonInRange m'.state.common →
-    is_done (request_answer m.state.common.queue (dataset_in w)) ≡ true → request_for (dataset_in w) (group_in w) ≡ r →
-    m'.state.common.queue ≡ (requested w m.state.common).queue → m'.state.common.loader ≡ m.state.common.loader →
-    Due m' r (waits (ahead m)) (work m + 129 * (ahead m + 1))
+due_request : (cm : Common) (w : ℕ) (r : Request) (cm' : Common) → CommonInRange cm' →
+    is_done (request_answer cm.queue (dataset_in w)) ≡ true → request_for (dataset_in w) (group_in w) ≡ r →
+    cm'.queue ≡ (requested w cm).queue → cm'.loader ≡ cm.loader →
+    Due cm' r (waits (length cm.queue)) (ticks_at_work cm.loader + 129 * (length cm.queue + 1))
 unfolding requested
-due_request m w r m' f h h' e same-request q l =
-    due_pushed m m' r f h h' (taken m.state.common.queue (dataset_in w) e).1 (q ∙ ap (pushed m.state.common.queue) same-request) l
+due_request cm w r cm' h e same-request q l =
+    due_pushed cm cm' r h (taken cm.queue (dataset_in w) e).1 (q ∙ ap (pushed cm.queue) same-request) l
 
-made_write : (m : Machine) (a w : ℕ) (r : Request) → Full m → CommonInRange m.state.common → request_made m (write a w) ≡ Some r →
-    Due (step m (write a w)) r (waits (ahead m)) (work m + 129 * (ahead m + 1))
+abbrev DueMade : Machine → Request → Machine → Type 0
+DueMade m r m' = Due m'.state.common r (waits (ahead m)) (work m + 129 * (ahead m + 1))
+
+made_write : (m : Machine) (a w : ℕ) (r : Request) → Whole m → CommonInRange m.state.common → request_made m (write a w) ≡ Some r →
+    DueMade m r (step m (write a w))
 unfolding request_made called write_at
 made_write m a w r f h e =
     let cm = m.state.common in
@@ -267,10 +246,10 @@ made_write m a w r f h e =
     let p : a ≡ 0x0A02 = eqb-true a 0x0A02 (and_parts _ _ b.0).0 in
     let made = reload_made w cm (and_parts (eqb a 0x0A02) _ b.0).1 b.1 in
     rw (step_called m f (write a w), p, decode_reload, made)
-    (due_request m w r (on_common m (with_reload (kept Reload w) (requested w cm))) f h (rw made at (reload_in w cm h)) b.1 b.2 refl (unfold requested in refl))
+    (due_request cm w r (with_reload (kept Reload w) (requested w cm)) (rw made at (reload_in w cm h)) b.1 b.2 refl (unfold requested in refl))
 
-made_tag : (m : Machine) (t : ℕ) (r : Request) → Full m → CommonInRange m.state.common → request_made m (tag t) ≡ Some r →
-    Due (step m (tag t)) r (waits (ahead m)) (work m + 129 * (ahead m + 1))
+made_tag : (m : Machine) (t : ℕ) (r : Request) → Whole m → CommonInRange m.state.common → request_made m (tag t) ≡ Some r →
+    DueMade m r (step m (tag t))
 unfolding request_made called
 made_tag m t r f h e =
     let cm = m.state.common in
@@ -281,53 +260,31 @@ made_tag m t r f h e =
     let one = (and_parts (events_on cm && right_key cm t) _ b.0).1 in
     let made = tag_made m t on key one b.1 in
     rw (step_called m f (tag t))
-    (due_request m t r (with_state m (tag_of m.state t)) f h ((tag_apart m t).1 h) b.1 b.2 (ap (λ (x : Common). x.queue) made)
+    (due_request cm t r (tag_of m.state t).common (called_keeps range_keeps m h (tag t) tt) b.1 b.2 (ap (λ (x : Common). x.queue) made)
     (ap (λ (x : Common). x.loader) made ∙ (unfold requested in refl)))
 
-due_made : (m : Machine) (x : Call) (r : Request) → Full m → CommonInRange m.state.common → request_made m x ≡ Some r →
-    Due (step m x) r (waits (ahead m)) (work m + 129 * (ahead m + 1))
+due_made : (m : Machine) (x : Call) (r : Request) → Whole m → CommonInRange m.state.common → request_made m x ≡ Some r → DueMade m r (step m x)
 unfolding request_made
-due_made m (tick inputs gates) r f h e = absurd (cc)
-due_made m (download d words) r f h e = absurd (cc)
 due_made m (write a w) r f h e = made_write m a w r f h e
 due_made m (tag t) r f h e = made_tag m t r f h e
+due_made m x r f h e = absurd (cc)
 
 -- ---- the bound
 
 finished_at_zero : (cm : Common) (r : Request) (s : Stand) → LoaderInRange cm.loader → Stands cm r s → ticks_left cm.loader s ≡ 0 → s ≡ finished
 finished_at_zero cm r s n st e = grind arith
 
-range_step : (m : Machine) → Full m → (x : Call) → CommonInRange m.state.common → CommonInRange (step m x).state.common
-unfolding called
-range_step m f (tick inputs gates) h =
-    rw (step_called m f (tick inputs gates))
-    (both (λ (y : Machine). CommonInRange y.state.common) (bad_levels inputs gates) h (unfold tick_of in (common_tick_in m.state.common h)))
-range_step m f (write a w) h = rw (step_called m f (write a w)) ((apart_at m a w).1 h)
-range_step m f (tag t) h = rw (step_called m f (tag t)) ((tag_apart m t).1 h)
-range_step m f (download d words) h =
-    rw (step_called m f (download d words)) (both (λ (y : Machine). CommonInRange y.state.common) (is_done (download_answer d (length words))) h h)
-
 work_le : (l : Option Reloading) → ticks_at_work l ≤ 128
 work_le l = grind arith
 
-full_start : Full machine0
-unfolding memory0
-full_start = length_tabulate 16384 _
-
--- the memory has all its words after every list
-pub full_after : (l : List Call) → length (after l).memory ≡ 16384
-unfolding after
-full_after l = full_from machine0 full_start l
-
 range_after : (l : List Call) → CommonInRange (after l).state.common
-unfolding after power_up
-range_after l =
-    (list_keeps (λ m. Full m × CommonInRange m.state.common) (λ m h x. (full m h.0 x, range_step m h.0 x h.1)) machine0 (full_start, common_start) l).1
+unfolding power_up
+range_after = after_keeps range_keeps common_start
 
 module _ (l : List Call) (x : Call) (r : Request) (made : request_made (after l) x ≡ Some r) where
   due_after : (k : List Call) →
-      Due (from (step (after l) x) k) r (stand_after (step (after l) x) k (waits (ahead (after l)))) (work (after l) + 129 * (ahead (after l) + 1) - accepted_ticks k)
-  due_after k = due_from (step (after l) x) k r _ _ (due_made (after l) x r (full_after l) (range_after l) made)
+      Due (from (step (after l) x) k).state.common r (stand_after (step (after l) x) k (waits (ahead (after l)))) (work (after l) + 129 * (ahead (after l) + 1) - accepted_ticks k)
+  due_after k = due_from (step (after l) x) (full (after l) (full_after l) x) k r _ _ (due_made (after l) x r (full_after l) (range_after l) made)
 
   -- the request stands where `stand_after` says, after every list
   pub stands : (k : List Call) → Stands (from (step (after l) x) k).state.common r (stand_after (step (after l) x) k (waits (ahead (after l))))

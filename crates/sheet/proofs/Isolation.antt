@@ -11,10 +11,10 @@ use Rattle.sheet.specs.Lines.{Holds, Lines, own_lines}
 use Rattle.sheet.specs.OwnPart.{Cut, Part, added, own, own_part}
 use Rattle.sheet.specs.Sheet.{Sheet, sheet0, sheet_after, sheet_from, sheet_shows}
 use Rattle.sheet.specs.Shows.{shows}
-use Rattle.sheet.proofs.Changes.{list_keeps}
 use Rattle.sheet.proofs.Fed.{from_added, sheet_step_by}
-use Rattle.sheet.proofs.Kept.{fits, fits_start, holds_all, holds_both, holds_left, holds_none, holds_right, sized, sized_start}
-use Rattle.sheet.proofs.Projection.{Fits, Sized, sheet_in, start}
+use Rattle.sheet.proofs.Kept.{fits, fits_start, holds_all, holds_both, holds_left, holds_none, holds_right}
+use Rattle.sheet.proofs.Projection.{Fits, sheet_in, start}
+use Rattle.sheet.proofs.Sizes.{Sized, sized_after, sized_start, sized_step}
 use Rattle.sheet.proofs.Squares.{square}
 
 along : (S : Lines) (c : ℕ) → c < 128 → (m : Machine) (l : List Call) → Sized m → Fits S (sheet_in S c m).counter.input → Holds S (own_lines c l) →
@@ -23,11 +23,8 @@ unfolding from own_part own_lines sheet_from
 along S c c< m [] size fit h = refl
 along S c c< m (x ∷ l) size fit h =
     let one : sheet_in S c (step m x) ≡ sheet_step_by c (sheet_in S c m) (own S c x) = square S c c< m size x (unfold sheet_in in fit) in
-    along S c c< (step m x) l (sized m size x) (rw one (fits S c (sheet_in S c m) fit x (holds_left S _ _ h))) (holds_right S _ _ h)
+    along S c c< (step m x) l (sized_step m size x) (rw one (fits S c (sheet_in S c m) fit x (holds_left S _ _ h))) (holds_right S _ _ h)
     ∙ rw one (sym (from_added c (sheet_in S c m) (own S c x) (own_part S c l)))
-
-pub sized_from : (m : Machine) → Sized m → (l : List Call) → Sized (from m l)
-sized_from = list_keeps Sized sized
 
 fit_start : (S : Lines) (c : ℕ) → c < 128 → Fits S (sheet_in S c machine0).counter.input
 unfolding sheet0
@@ -43,7 +40,7 @@ pub isolation_in : (S : Lines) (c : ℕ) → c < 128 → (l : List Call) → Hol
     shows c (after l) ≡ sheet_shows (sheet_after c (own_part S c l))
 unfolding after sheet_after
 isolation_in S c c< l h =
-    shows_sheet S c c< (from machine0 l) (sized_from machine0 sized_start l)
+    shows_sheet S c c< (from machine0 l) (sized_after l)
     ∙ ap sheet_shows
     (along S c c< machine0 l sized_start (fit_start S c c<) h ∙ ap (λ (s : Sheet). sheet_from c s (own_part S c l)) (start S c c<))
 

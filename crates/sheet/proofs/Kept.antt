@@ -1,97 +1,26 @@
--- What every call keeps: the lengths of the lists, and that S has the lines which c's input register selects.
+-- What every call keeps of the lines: S has those which c's input register selects.
 use Prim.Native.Nat.{ℕ}
 use native.Mathlib.Omega.{arith}
 use mathlib.Core.Bool.{Bool}
 use mathlib.Core.List.{List}
 use mathlib.Core.Path.{◌≡◌}
-use lib.ListN.{length, length-set}
 use Rattle.std.proofs.lemmas.Grind.{common_steps}
 use Rattle.std.proofs.Common.{Option, Some, None}
-use Rattle.bools.proofs.Tests.{both, pick_elim}
 use Rattle.words.proofs.Fields.{field_low}
-use Rattle.lists.proofs.Tables.{length_each, length_tabulate}
 use Rattle.counters.specs.declared.counter.Counter.{Counter}
 use Rattle.loader.specs.declared.loader.Reload.{Reload as Reloading}
-use Rattle.counters.specs.Counter.{clear_counters, counter0, counter_step, counter_tick, input0, reset_on, tick_counters}
-use Rattle.loader.specs.Loader.{load_into}
+use Rattle.counters.specs.Counter.{counter_step, counter_tick, input0}
 use Rattle.loader.specs.Memory.{loaded}
-use Rattle.gates.specs.Gate.{with_prepare_pulse, with_recover_pulse}
-use Rattle.gates.proofs.Gates.{length_each_gate}
 use Rattle.device.specs.declared.map.Register.{Register}
 use Rattle.device.specs.declared.map.Register.TheVariants.{Input}
-use Rattle.device.specs.declared.state.Crate.{Crate}
-use Rattle.causes.specs.Causes.{is_done}
-use Rattle.loader.specs.Memory.{is_whole}
-use Rattle.registers.specs.Calls.{Call, tick, write, tag, download, called, download_answer, machine0, step}
-use Rattle.device.specs.Map.{decode_of, kept}
-use Rattle.device.proofs.Found.{found}
-use Rattle.device.specs.State.{Machine, memory0, power_up, with_memory, with_state}
-use Rattle.tagging.specs.Tag.{tag_of}
-use Rattle.ticking.specs.Tick.{tick_of}
-use Rattle.lines.specs.Lines.{bad_levels}
-use Rattle.writing.specs.Write.{reset_by, write_at}
-use Rattle.registers.proofs.Whole.{length_replaced}
+use Rattle.registers.specs.Calls.{Call}
+use Rattle.device.specs.Map.{kept}
 use Rattle.sheet.specs.Lines.{Holds, Lines, join, lines_at, lines_in, lines_of, no_lines}
 use Rattle.sheet.specs.OwnPart.{Part, patched, own, own_at}
 use Rattle.sheet.specs.Sheet.{Sheet, sheet_load, sheet_step, sheet_tag, sheet_tick}
-use Rattle.sheet.proofs.Changes.{sheet_tag_by, tag_by}
+use Rattle.sheet.proofs.Changes.{sheet_tag_by}
 use Rattle.sheet.proofs.Fed.{sheet_step_by}
-use Rattle.sheet.proofs.Projection.{Fits, Sized}
-
--- ---- the lengths are kept
-
-sized_memory : (m : Machine) → Sized m → (x : List ℕ) → length x ≡ 16384 → Sized (with_memory m x)
-sized_memory m s x p = assumption
-
-length_load : (l : Option Reloading) (groups memory : List ℕ) (xs : List Counter) → length xs ≡ 128 → length (load_into l groups memory xs) ≡ 128
-unfolding load_into
-length_load l groups memory xs p = grind (arith, common_steps)
-
-length_ticked : (control rises was is : ℕ) (xs : List Counter) → length (tick_counters control rises was is xs) ≡ 128
-unfolding tick_counters
-length_ticked control rises was is xs = length_each 128 counter0 _ xs
-
-length_cleared : (xs : List Counter) → length (clear_counters xs) ≡ 128
-unfolding clear_counters
-length_cleared xs = length_each 128 counter0 _ xs
-
-length_reset : (w : ℕ) (xs : List Counter) → length xs ≡ 128 → length (reset_by w xs) ≡ 128
-unfolding reset_by
-length_reset w xs p = both (λ (x : List Counter). length x ≡ 128) (reset_on w) (length_cleared xs) p
-
-sized_tick : (m : Machine) → Sized m → (inputs levels : ℕ) → Sized (with_state m (tick_of m.state m.memory inputs levels))
-unfolding tick_of
-sized_tick m s inputs levels = grind (arith, length_load, length_ticked, length_each_gate)
-
-sized_write : (m : Machine) → Sized m → (r : Register) (w : ℕ) → Sized (write_at m r w)
-unfolding write_at
-sized_write m s r w = grind (arith, length_reset, length_each_gate, length-set)
-
-abbrev SizedIn : Machine → Crate → Type 0
-SizedIn m s = Sized (with_state m s)
-
-sized_tag : (m : Machine) → Sized m → (t : ℕ) → SizedIn m (tag_of m.state t)
-sized_tag m s t =
-    tag_by (SizedIn m) m.state t (assumption) (assumption) (assumption) (assumption (length_each_gate with_prepare_pulse t m.state.gates))
-    (assumption (length_each_gate with_recover_pulse t m.state.gates)) (assumption (length_cleared m.state.counters))
-
-sized_called : (m : Machine) → Sized m → (x : Call) → Sized (called m x)
-unfolding called
-sized_called m s (tick inputs gates) = both Sized (bad_levels inputs gates) s (sized_tick m s inputs gates)
-sized_called m s (write a w) = found Sized (λ r. write_at m r w) m s (λ r. sized_write m s r w) (decode_of a)
-sized_called m s (tag t) = sized_tag m s t
-sized_called m s (download d words) =
-    pick_elim Sized (is_done (download_answer d (length words)))
-    (λ e. sized_memory m s _ (length_replaced m.memory d words s.memory e))
-    (λ e. s)
-
-pub sized : (m : Machine) → Sized m → (x : Call) → Sized (step m x)
-unfolding step
-sized m s x = both Sized (is_whole m.memory) (sized_called m s x) s
-
-pub sized_start : Sized machine0
-unfolding power_up memory0
-sized_start = record { counters = length_tabulate 128 _; groups = length_tabulate 32 _; gates = length_tabulate 12 _; memory = length_tabulate 16384 _ }
+use Rattle.sheet.proofs.Projection.{Fits}
 
 -- ---- the lines of S are enough
 

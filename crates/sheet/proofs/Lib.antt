@@ -20,5 +20,6 @@ pub mod Settled
 pub mod SettledLists
 pub mod SharedCases
 pub mod SharedRows
+pub mod Sizes
 pub mod Squares
 pub mod Theorems

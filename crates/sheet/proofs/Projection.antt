@@ -50,13 +50,6 @@ sheet_in S c m =
     (masked_bits 54 S.inputs m.state.levels)
     (own_gates S.gates m.state.gates)
 
--- the lists have the lengths that they have at power-up
-pub record Sized (m : Machine) : Type 0 where
-  pub counters : length m.state.counters ≡ 128
-  pub groups : length m.state.groups ≡ 32
-  pub gates : length m.state.gates ≡ 12
-  pub memory : length m.memory ≡ 16384
-
 -- S has the lines that a word selects
 pub record Fits (S : Lines) (w : ℕ) : Type 0 where
   pub up : up_of w < 54 → S.inputs (up_of w) ≡ true

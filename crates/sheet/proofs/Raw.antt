@@ -9,62 +9,37 @@ use borrow.Author.Tests.{eq-eqb, lt-ltb}
 use lib.ListN.{length}
 use Rattle.std.proofs.lemmas.Bool.Decides.{nat_tests}
 use Rattle.std.proofs.Common.{Ok, Some}
-use Rattle.std.specs.Option.{option_map_or}
 use Rattle.words.specs.Word.{bit, bit_of}
 use Rattle.words.proofs.Packing.{bit_pack, bit_zero}
-use Rattle.bools.proofs.Tests.{both, cases}
+use Rattle.bools.proofs.Tests.{cases}
 use Rattle.lists.proofs.Tables.{get_or_each, get_d_tabulate}
 use Rattle.lines.specs.Lines.{bad_levels, input_rise, rise_of, rises_of}
 use Rattle.lines.specs.Raw.{count_rises, raw_at, raw_step}
-use Rattle.loader.specs.Memory.{is_whole}
-use Rattle.device.specs.declared.map.Register.{Register}
-use Rattle.device.specs.declared.map.Register.TheVariants.{Readout, Other}
-use Rattle.device.specs.declared.map.Setting.{Setting}
+use Rattle.device.specs.declared.map.Register.TheVariants.{Readout}
 use Rattle.device.specs.declared.map.Status.TheVariants.{Raw}
 use Rattle.device.specs.declared.state.Crate.{Crate}
-use Rattle.registers.specs.Calls.{Call, tick, write, tag, download, after, called, from, machine0, step}
+use Rattle.registers.specs.Calls.{Call, tick, after, called, from, machine0, step}
 use Rattle.device.specs.Map.{counter_map, decode_of}
-use Rattle.device.proofs.Found.{found}
 use Rattle.reading.specs.Read.{low_first, read_of, status_word, word_in}
 use Rattle.device.specs.State.{Machine, power_up, with_state}
-use Rattle.tagging.specs.Tag.{tag_of}
 use Rattle.ticking.specs.Tick.{rest_tick, tick_of}
 use Rattle.writing.specs.Write.{rest_write, write_at}
 use Rattle.registers.proofs.Whole.{full, step_called}
 use Rattle.sheet.specs.Raw.{levels_of, raw_count, rises_in}
-use Rattle.sheet.proofs.Changes.{tag_by}
-use Rattle.sheet.proofs.Isolation.{sized_from}
-use Rattle.sheet.proofs.Kept.{sized_start}
+use Rattle.registers.proofs.Keeping.{Change, Keeps, Untimed, changed, step_keeps, timed}
+use Rattle.sheet.proofs.Sizes.{full_after, sized_start}
 
 -- ---- what leaves the raw counts, and the levels that the next rises are taken from
 
-record Left (s t : Crate) : Type 0 where
-  rawcounts : t.rest.rawcounts ≡ s.rest.rawcounts
-  levels : t.levels ≡ s.levels
+abbrev Left : Crate → Machine → Type 0
+Left s m = (m.state.rest.rawcounts ≡ s.rest.rawcounts) × (m.state.levels ≡ s.levels)
 
--- no setting is a raw count
-rawcounts_stay : (m : Machine) (r : Setting) (w : ℕ) → (rest_write r w m.state.rest).rawcounts ≡ m.state.rest.rawcounts
-unfolding rest_write
-rawcounts_stay m r w = grind arith
+left_changed : (s : Crate) (m : Machine) → Left s m → (x : Change) → Left s (changed m x)
+unfolding write_at rest_write
+left_changed s m h x = grind arith
 
-left_write : (m : Machine) (r : Register) (w : ℕ) → Left m.state (write_at m r w).state
-unfolding write_at
-left_write m (Other r) w = record { rawcounts = rawcounts_stay m r w; levels = refl }
-left_write m r w = assumption
-
-left_at : (m : Machine) (a w : ℕ) → Left m.state (option_map_or (λ (r : Register). write_at m r w) (decode_of a) m).state
-left_at m a w = found (λ (n : Machine). Left m.state n.state) (λ r. write_at m r w) m (assumption) (λ r. left_write m r w) (decode_of a)
-
-left_tag : (s : Crate) (t : ℕ) → Left s (tag_of s t)
-left_tag s t = tag_by (Left s) s t (assumption) (assumption) (assumption) (assumption) (assumption) (assumption)
-
-left_download : (m : Machine) (d : ℕ) (words : List ℕ) → Left m.state (called m (download d words)).state
-unfolding called
-left_download m d words = grind arith
-
-left_step : (m : Machine) (x : Call) → Left m.state (called m x).state → Left m.state (step m x).state
-unfolding step
-left_step m x h = both (λ (n : Machine). Left m.state n.state) (is_whole m.memory) h (assumption)
+left_keeps : (s : Crate) → Keeps Untimed (Left s)
+left_keeps s = record { change = left_changed s; tick = λ m h inputs gates c e. timed inputs gates c e; download = λ m h d words c e. h }
 
 -- ---- one input
 
@@ -93,10 +68,6 @@ good_levels : (i inputs gates : ℕ) (l : List Call) → bad_levels inputs gates
 unfolding levels_of
 good_levels i inputs gates l e = rw e
 
-bad_tick : (m : Machine) → length m.memory ≡ 16384 → (inputs gates : ℕ) → bad_levels inputs gates ≡ true → step m (tick inputs gates) ≡ m
-unfolding called
-bad_tick m h inputs gates e = step_called m h (tick inputs gates) ∙ rw e
-
 good_tick : (m : Machine) → length m.memory ≡ 16384 → (inputs gates : ℕ) → bad_levels inputs gates ≡ false →
     step m (tick inputs gates) ≡ with_state m (tick_of m.state m.memory inputs gates)
 unfolding called
@@ -115,11 +86,11 @@ module _ (i : ℕ) (b : i < 54) where
   Adds l = (m : Machine) (n : ℕ) → length m.memory ≡ 16384 → Counts m n → raw_at (from m l).state.rest.rawcounts i ≡ total m n (levels_of i l)
 
   past : (l : List Call) → Adds l → (m : Machine) (n : ℕ) → length m.memory ≡ 16384 → Counts m n →
-      (x : Call) → Left m.state (called m x).state → raw_at (from (step m x) l).state.rest.rawcounts i ≡ total m n (levels_of i l)
-  past l adds m n whole h x called-left =
-      let left = left_step m x called-left in
-      adds (step m x) n (full m whole x) (ap (λ (rawcounts : List ℕ). raw_at rawcounts i) left.rawcounts ∙ h)
-      ∙ ap (λ (levels : ℕ). (n + rises_in (bit levels i) (levels_of i l)) % 2 ^ 32) left.levels
+      (x : Call) → Untimed x → raw_at (from (step m x) l).state.rest.rawcounts i ≡ total m n (levels_of i l)
+  past l adds m n whole h x c =
+      let left = step_keeps (left_keeps m.state) m (refl, refl) x c in
+      adds (step m x) n (full m whole x) (ap (λ (rawcounts : List ℕ). raw_at rawcounts i) left.0 ∙ h)
+      ∙ ap (λ (levels : ℕ). (n + rises_in (bit levels i) (levels_of i l)) % 2 ^ 32) left.1
 
   accepted : (l : List Call) → Adds l → (m : Machine) (n : ℕ) → length m.memory ≡ 16384 → Counts m n → (inputs gates : ℕ) →
       raw_at (from (with_state m (tick_of m.state m.memory inputs gates)) l).state.rest.rawcounts i ≡ total m n (bit inputs i ∷ levels_of i l)
@@ -134,10 +105,7 @@ module _ (i : ℕ) (b : i < 54) where
       raw_at (from (step m (tick inputs gates)) l).state.rest.rawcounts i ≡ total m n (levels_of i (tick inputs gates ∷ l))
   ticked l adds m n whole h inputs gates =
       cases (bad_levels inputs gates)
-      (λ e.
-      ap (λ (k : Machine). raw_at (from k l).state.rest.rawcounts i) (bad_tick m whole inputs gates e)
-      ∙ adds m n whole h
-      ∙ ap (total m n) (sym (bad_levels_lem i inputs gates l e)))
+      (λ e. past l adds m n whole h (tick inputs gates) (rw e) ∙ ap (total m n) (sym (bad_levels_lem i inputs gates l e)))
       (λ e.
       ap (λ (k : Machine). raw_at (from k l).state.rest.rawcounts i) (good_tick m whole inputs gates e)
       ∙ accepted l adds m n whole h inputs gates
@@ -147,9 +115,7 @@ module _ (i : ℕ) (b : i < 54) where
   unfolding from levels_of rises_in called
   raw_from [] m n whole h = h ∙ ap (λ (k : ℕ). k % 2 ^ 32) (sym (add-zero n))
   raw_from (tick inputs gates ∷ l) m n whole h = ticked l (raw_from l) m n whole h inputs gates
-  raw_from (write a w ∷ l) m n whole h = past l (raw_from l) m n whole h (write a w) (left_at m a w)
-  raw_from (tag t ∷ l) m n whole h = past l (raw_from l) m n whole h (tag t) (left_tag m.state t)
-  raw_from (download d words ∷ l) m n whole h = past l (raw_from l) m n whole h (download d words) (left_download m d words)
+  raw_from (x ∷ l) m n whole h = past l (raw_from l) m n whole h x refl
 
   raw_start : Counts machine0 0
   unfolding power_up
@@ -180,5 +146,5 @@ read_raw m whole j h = rw (eq-eqb (length m.memory) 16384 whole, decode_raw j h)
 
 pub raw_reads : (j : ℕ) → j < 108 → (l : List Call) → read_of (after l) (0x1300 + j) ≡ Ok (low_first j (raw_count (j / 2) l))
 raw_reads j h l =
-    read_raw (after l) (unfold after in (sized_from machine0 sized_start l).memory) j h
+    read_raw (after l) (full_after l) j h
     ∙ ap (λ (n : ℕ). Ok (low_first j n)) (raw_counts (j / 2) (omega arith) l)

@@ -32,21 +32,18 @@ use Rattle.device.specs.declared.map.Register.TheVariants.{Other, Control, Mode,
 use Rattle.device.specs.declared.map.Setting.{Setting}
 use Rattle.device.specs.declared.map.Setting.TheVariants.{Mask, Selection}
 use Rattle.device.specs.declared.state.Common.{Common}
-use Rattle.device.specs.declared.state.Crate.{Crate}
 use Rattle.device.specs.declared.state.Rest.{Rest}
 use Rattle.causes.specs.Causes.{is_done}
-use Rattle.loader.specs.Memory.{is_whole}
-use Rattle.registers.specs.Calls.{Call, tick, write, tag, download, after, called, from, machine0, step}
-use Rattle.device.specs.Map.{decode_of, kept, used_bits}
-use Rattle.device.proofs.Found.{found}
+use Rattle.registers.specs.Calls.{Call, download, after, machine0}
+use Rattle.device.specs.Map.{kept, used_bits}
 use Rattle.device.specs.State.{Machine, common0, memory0, power_up, with_groups, with_memory, with_registers, with_rest, with_state}
 use Rattle.interlocks.specs.Interlock.{selected}
-use Rattle.tagging.specs.Tag.{noted_in, tag_of, tag_request}
+use Rattle.tagging.specs.Tag.{tag_request}
 use Rattle.ticking.specs.Tick.{common_tick, rest_tick, tick_of}
 use Rattle.writing.specs.Write.{control_write, dataset_in, enable_write, group_in, key_write, on_common, on_counters, on_gates, reload_answer, reload_write, request_answer, requested, reset_by, rest_write, with_reload, with_selected, write_at}
+use Rattle.registers.proofs.Keeping.{Any, Change, Keeps, asked, changed, cleared_all, list_keeps, noted, prepared, recovered, written}
 use Rattle.registers.proofs.Whole.{accepted, length_replaced}
 use Rattle.sheet.specs.Reachable.{CommonInRange, CounterInRange, GateInRange, OfWords, Reached, RestInRange}
-use Rattle.sheet.proofs.Changes.{tag_by}
 use Rattle.sheet.proofs.InRange.{cleared_in, counter0_in, gate_in_lem, input_in, load_all, load_in, loader_in, phases_in, pushed_in, queue_in, request0_in, taken, tick_in, watchdog_in}
 
 -- the lowest n bits of a word are below 2 ^ n: no unused bit is stored
@@ -233,25 +230,6 @@ pub control_stays : (w : ℕ) (cm : Common) → (reload_write w cm).control ≡ 
 unfolding reload_write requested
 control_stays w cm = grind arith
 
-reached_write : (m : Machine) → Reached m → (r : Register) (w : ℕ) → Reached (write_at m r w)
-unfolding write_at
-reached_write m h (Other r) w = reached_rest m h _ (rest_in r w m.state.rest h.rest)
-reached_write m h Control w = reached_control m h w
-reached_write m h Mode w = reached_gates m h _ (gates_in_lem with_mode (λ b g h. assumption) w m.state.gates h.gates)
-reached_write m h (Timeout g) w = reached_gates m h _ (timeout_in m.state.gates h.gates g w)
-reached_write m h Key w = reached_common m h _ (key_in w m.state.common h.common) (unfold key_write in refl)
-reached_write m h Enable w = reached_common m h _ (enable_in w m.state.common h.common) (unfold enable_write in refl)
-reached_write m h Reload w = reached_common m h _ (reload_in w m.state.common h.common) (control_stays w m.state.common)
-reached_write m h Prepare w = reached_gates m h _ (gates_in_lem with_prepare (λ b g h. assumption) w m.state.gates h.gates)
-reached_write m h Recover w = reached_gates m h _ (gates_in_lem with_recover (λ b g h. assumption) w m.state.gates h.gates)
-reached_write m h (Input n) w = reached_input m h n w
-reached_write m h (Group k) w =
-    reached_groups m h _ (all_set 0 (λ i n. n < 2 ^ 16) (λ i. lit< tt) m.state.groups k _ (kept_lt (Group k) w) h.groups)
-reached_write m h (Word i) w =
-    reached_memory m h _ (length-set m.memory i _ ∙ h.memory)
-    (unfold word_at in (all_set 0 (λ i n. n < 2 ^ 16) (λ i. lit< tt) m.memory i _ (kept_lt (Word i) w) h.words))
-reached_write m h r w = h
-
 -- ---- ticks
 
 good_inputs : (inputs gates : ℕ) → bad_levels inputs gates ≡ false → (inputs < 2 ^ 54) × (gates < 2 ^ 12)
@@ -292,12 +270,6 @@ reached_tick m h inputs gates good =
 
 -- ---- tags
 
-noted_in_lem : (m : Machine) → Reached m → (t : ℕ) → Reached (with_state m (noted_in m.state t))
-noted_in_lem m h t = grind arith
-
-abbrev ReachedIn : Machine → Crate → Type 0
-ReachedIn m s = Reached (with_state m s)
-
 pub tag_request_in : (t : ℕ) (cm : Common) → CommonInRange cm → CommonInRange (tag_request t cm)
 unfolding tag_request
 tag_request_in t cm h = pick_elim CommonInRange (is_done (request_answer cm.queue (dataset_in t))) (λ e. requested_in t cm h e) (λ e. h)
@@ -306,16 +278,6 @@ tag_control : (t : ℕ) (cm : Common) → (tag_request t cm).control ≡ cm.cont
 unfolding tag_request requested
 tag_control t cm = cases (is_done (request_answer cm.queue (dataset_in t))) (λ e. rw e refl) (λ e. rw e refl)
 
-reached_tag : (m : Machine) → Reached m → (t : ℕ) → ReachedIn m (tag_of m.state t)
-reached_tag m h t =
-    let n = with_state m (noted_in m.state t) in
-    let r = noted_in_lem m h t in
-    tag_by (ReachedIn m) m.state t h r
-    (reached_common n r _ (tag_request_in t m.state.common h.common) (tag_control t m.state.common))
-    (reached_gates n r _ (gates_in_lem with_prepare_pulse (λ b g h. assumption) t m.state.gates h.gates))
-    (reached_gates n r _ (gates_in_lem with_recover_pulse (λ b g h. assumption) t m.state.gates h.gates))
-    (reached_clear n r)
-
 -- ---- downloads
 
 replaced_in : (memory : List ℕ) (d : ℕ) (words : List ℕ) → length memory ≡ 16384 → length words ≡ 512 → d < 32 →
@@ -323,32 +285,64 @@ replaced_in : (memory : List ℕ) (d : ℕ) (words : List ℕ) → length memory
 unfolding word_at replaced
 replaced_in memory d words size n d< p q a = grind (arith, common_steps)
 
-reached_download : (m : Machine) → Reached m → (d : ℕ) (words : List ℕ) → ((i : ℕ) → get_or words i 0 < 2 ^ 16) → Reached (called m (download d words))
-unfolding called
-reached_download m h d words q = grind (arith, accepted, length_replaced, replaced_in)
+-- ---- calls
 
--- ---- lists
+reached_changed : (m : Machine) → Reached m → (x : Change) → Reached (changed m x)
+unfolding write_at
+reached_changed m h (written (Other r) w) = reached_rest m h _ (rest_in r w m.state.rest h.rest)
+reached_changed m h (written Control w) = reached_control m h w
+reached_changed m h (written Mode w) = reached_gates m h _ (gates_in_lem with_mode (λ b g h. assumption) w m.state.gates h.gates)
+reached_changed m h (written (Timeout g) w) = reached_gates m h _ (timeout_in m.state.gates h.gates g w)
+reached_changed m h (written Key w) = reached_common m h _ (key_in w m.state.common h.common) (unfold key_write in refl)
+reached_changed m h (written Enable w) = reached_common m h _ (enable_in w m.state.common h.common) (unfold enable_write in refl)
+reached_changed m h (written Reload w) = reached_common m h _ (reload_in w m.state.common h.common) (control_stays w m.state.common)
+reached_changed m h (written Prepare w) = reached_gates m h _ (gates_in_lem with_prepare (λ b g h. assumption) w m.state.gates h.gates)
+reached_changed m h (written Recover w) = reached_gates m h _ (gates_in_lem with_recover (λ b g h. assumption) w m.state.gates h.gates)
+reached_changed m h (written (Input n) w) = reached_input m h n w
+reached_changed m h (written (Group k) w) =
+    reached_groups m h _ (all_set 0 (λ i n. n < 2 ^ 16) (λ i. lit< tt) m.state.groups k _ (kept_lt (Group k) w) h.groups)
+reached_changed m h (written (Word i) w) =
+    reached_memory m h _ (length-set m.memory i _ ∙ h.memory)
+    (unfold word_at in (all_set 0 (λ i n. n < 2 ^ 16) (λ i. lit< tt) m.memory i _ (kept_lt (Word i) w) h.words))
+reached_changed m h (noted t) = grind arith
+reached_changed m h (asked t) = reached_common m h _ (tag_request_in t m.state.common h.common) (tag_control t m.state.common)
+reached_changed m h (prepared t) = reached_gates m h _ (gates_in_lem with_prepare_pulse (λ b g h. assumption) t m.state.gates h.gates)
+reached_changed m h (recovered t) = reached_gates m h _ (gates_in_lem with_recover_pulse (λ b g h. assumption) t m.state.gates h.gates)
+reached_changed m h cleared_all = reached_clear m h
+reached_changed m h x = h
 
-abbrev Once : Machine → Call → Type 0
-Once m x = Reached m → Reached (called m x)
+-- a download's words are words
+abbrev WordsOf : Call → Type 0
+WordsOf (download d words) = (i : ℕ) → get_or words i 0 < 2 ^ 16
+WordsOf x = Unit
 
-made : (m : Machine) (x : Call) → Once m x → Reached m → Reached (step m x)
-unfolding step
-made m x f h = both Reached (is_whole m.memory) (f h) h
+reached_keeps : Keeps WordsOf Reached
+reached_keeps = record {
+  change = reached_changed;
+  tick = λ m h inputs gates c good. reached_tick m h inputs gates good;
+  download = λ m h d words c e.
+      let a = accepted d (length words) e in
+      reached_memory m h _ (length_replaced m.memory d words h.memory e) (replaced_in m.memory d words h.memory a.0 a.1 h.words c);
+}
 
-tick_once : (m : Machine) (inputs gates : ℕ) → Once m (tick inputs gates)
-unfolding called
-tick_once m inputs gates h = pick_elim Reached (bad_levels inputs gates) (λ e. h) (λ e. reached_tick m h inputs gates e)
+first_of_words : (x : Call) (l : List Call) → OfWords (x ∷ l) → (WordsOf x) × (OfWords l)
+unfolding OfWords
+first_of_words (download d words) l o = o
+first_of_words x l o = (tt, o)
 
-reached_from : (m : Machine) → Reached m → (l : List Call) → OfWords l → Reached (from m l)
-unfolding from OfWords
-reached_from m h [] o = h
-reached_from m h (tick inputs gates ∷ l) o = reached_from (step m (tick inputs gates)) (made m _ (tick_once m inputs gates) h) l o
-reached_from m h (write a w ∷ l) o =
-    reached_from (step m (write a w)) (made m _ (λ h. unfold called in (found Reached (λ r. write_at m r w) m h (λ r. reached_write m h r w) (decode_of a))) h) l o
-reached_from m h (tag t ∷ l) o = reached_from (step m (tag t)) (made m _ (λ h. unfold called in (reached_tag m h t)) h) l o
-reached_from m h (download d words ∷ l) o =
-    reached_from (step m (download d words)) (made m _ (λ h. reached_download m h d words o.0) h) l o.1
+-- the part of it that needs no words
+pub range_changed : (m : Machine) → CommonInRange m.state.common → (x : Change) → CommonInRange (changed m x).state.common
+unfolding write_at
+range_changed m h (written Control w) = control_in w m.state.common h
+range_changed m h (written Key w) = key_in w m.state.common h
+range_changed m h (written Enable w) = enable_in w m.state.common h
+range_changed m h (written Reload w) = reload_in w m.state.common h
+range_changed m h (asked t) = tag_request_in t m.state.common h
+range_changed m h x = h
+
+pub range_keeps : Keeps Any (λ m. CommonInRange m.state.common)
+unfolding tick_of
+range_keeps = record { change = range_changed; tick = λ m h inputs gates c e. common_tick_in m.state.common h; download = λ m h d words c e. h }
 
 pub common_start : CommonInRange common0
 common_start = record {
@@ -391,4 +385,4 @@ reached_start = record {
 
 pub reachable : (l : List Call) → OfWords l → Reached (after l)
 unfolding after
-reachable l o = reached_from machine0 reached_start l o
+reachable l o = list_keeps reached_keeps OfWords first_of_words machine0 reached_start l o

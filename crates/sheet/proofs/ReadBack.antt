@@ -7,7 +7,7 @@ use mathlib.Core.List.{List, []}
 use mathlib.Core.Path.{◌≡◌, refl, sym, ap, ◌∙◌}
 use borrow.Author.Tests.{eq-eqb, eqb-false, eqb-true, ltb-false, ltb-true, ne_eqb}
 use lib.Dec.{eqb, ltb}
-use lib.ListN.{get_or, length, length-set, get_or-eq_default, set}
+use lib.ListN.{get_or, length, get_or-eq_default, set}
 use lib.Pow.{pow_mono, pow_pos}
 use lib.Seq.{get_or-set_same, get_or-set_other}
 use Rattle.std.proofs.lemmas.Grind.{common_steps}
@@ -19,8 +19,8 @@ use Rattle.words.proofs.Fields.{bit_low}
 use Rattle.words.proofs.Gather.{pack_ext, pack_is}
 use Rattle.words.proofs.Packing.{bit_past}
 use Rattle.bools.proofs.Tests.{both, cases}
-use Rattle.lists.specs.Table.{each, tabulate}
-use Rattle.lists.proofs.Tables.{get_d_tabulate, get_or_each, length_each, length_tabulate}
+use Rattle.lists.specs.Table.{each}
+use Rattle.lists.proofs.Tables.{get_or_each, length_each}
 use Rattle.counters.specs.declared.counter.Counter.{Counter}
 use Rattle.gates.specs.declared.gate.Gate.{Gate}
 use Rattle.watchdogs.specs.declared.watchdog.Watchdog.{Watchdog}
@@ -28,8 +28,8 @@ use Rattle.gates.specs.Gate.{each_gate, failed, gate0, gate_at, gate_bits, is_er
 use Rattle.gates.specs.Gate.{state_word, with_mode, with_prepare, with_recover, with_timeout}
 use Rattle.counters.specs.Counter.{clear_counters, cleared, counter0, counter_at, is_over, is_under, overflow_word, reset_on, with_input}
 use Rattle.loader.specs.Loader.{busy}
-use Rattle.loader.specs.Memory.{is_whole, word_at}
-use Rattle.watchdogs.specs.Watchdog.{error_of, reset_in, reset_of, reset_watchdogs, step_watchdogs, watchdog0, watchdog_at, watchdog_word, with_reset}
+use Rattle.loader.specs.Memory.{word_at}
+use Rattle.watchdogs.specs.Watchdog.{error_of, reset_in, reset_of, reset_watchdogs, watchdog0, watchdog_at, watchdog_word, with_reset}
 use Rattle.device.specs.declared.map.Register.{Register}
 use Rattle.device.specs.declared.map.Register.TheVariants.{Readout, Other, Control, Mode, Timeout, Key, Enable, Reload, Prepare, Recover, Input, Group, Word}
 use Rattle.device.specs.declared.map.Setting.{Setting}
@@ -42,98 +42,18 @@ use Rattle.device.specs.declared.state.Crate.{Crate}
 use Rattle.device.specs.declared.state.Rest.{Rest}
 use Rattle.causes.specs.declared.Cause.{Cause}
 use Rattle.causes.specs.declared.Cause.TheVariants.{Address}
-use Rattle.causes.specs.Causes.{Answer, is_done}
-use Rattle.device.proofs.Found.{found}
-use Rattle.registers.specs.Calls.{Call, tick, write, tag, download, after, answer, called, call_answer, download_answer, machine0, step}
+use Rattle.causes.specs.Causes.{Answer}
+use Rattle.registers.specs.Calls.{Call, write, after, answer, called, call_answer, step}
 use Rattle.interlocks.specs.Interlock.{interlocks, other_signals, output_count, selected, signals, trips, trips_by}
 use Rattle.device.specs.Map.{decode_of, kept, kept_at, output_words}
 use Rattle.reading.specs.Read.{read_of, setting_word, status_word, word_in}
-use Rattle.device.specs.State.{Machine, power_up, with_counters, with_gates, with_groups, with_memory, with_rest, with_state}
-use Rattle.tagging.specs.Tag.{noted_in, tag_of}
-use Rattle.ticking.specs.Tick.{rest_tick, tick_of}
-use Rattle.lines.specs.Lines.{bad_levels}
+use Rattle.device.specs.State.{Machine, with_counters, with_gates, with_groups, with_memory, with_rest, with_state}
 use Rattle.writing.specs.Write.{control_write, enable_write, key_write, on_common, on_counters, on_gates, reload_answer, reload_write, requested, reset_by, rest_write}
 use Rattle.writing.specs.Write.{with_reload, with_selected, write_answer, write_at}
 use Rattle.registers.proofs.Whole.{full, step_called}
 use Rattle.sheet.specs.Follows.{follows, follows_at}
 use Rattle.sheet.proofs.Addresses.{InBlock, InMap, address_of, placed_as}
-use Rattle.sheet.proofs.Changes.{list_keeps, tag_by}
-use Rattle.sheet.proofs.Isolation.{sized_from}
-use Rattle.sheet.proofs.Kept.{sized_start}
-use Rattle.sheet.proofs.Projection.{Sized}
-
--- ---- the lists that no counter sees keep their lengths
-
-record RestSized (r : Rest) : Type 0 where
-  masks : length r.masks ≡ 6
-  selections : length r.selections ≡ 6
-  blocks : (o : ℕ) → o < 6 → length (get_or r.selections o []) ≡ 22
-  watchdogs : length r.watchdogs ≡ 54
-
-abbrev RestIn : Machine → Type 0
-RestIn m = RestSized m.state.rest
-
-abbrev RestOf : Crate → Type 0
-RestOf s = RestSized s.rest
-
-blocks_written : (xss : List (List ℕ)) (o k w : ℕ) → length xss ≡ 6 → ((p : ℕ) → p < 6 → length (get_or xss p []) ≡ 22) →
-    (p : ℕ) → p < 6 → length (get_or (with_selected xss o k w) p []) ≡ 22
-blocks_written xss o k w size h p l = grind (arith, common_steps, length-set)
-
-rest_write_lem : (q : Setting) (w : ℕ) (r : Rest) → RestSized r → RestSized (rest_write q w r)
-unfolding rest_write reset_watchdogs
-rest_write_lem (Mask k) w r h = assumption (length-set r.masks k (kept (Other (Mask k)) w) ∙ h.masks)
-rest_write_lem (WatchdogReset k) w r h = assumption (length_each 54 watchdog0 (reset_in k w) r.watchdogs)
-rest_write_lem (Selection o k) w r h =
-    let v = kept (Other (Selection o k)) w in
-    record {
-      masks = h.masks;
-      selections = length-set r.selections o _ ∙ h.selections;
-      blocks = blocks_written r.selections o k v h.selections h.blocks;
-      watchdogs = h.watchdogs;
-    }
-rest_write_lem WatchdogTimeout w r h = assumption
-
-rest_written : (m : Machine) → RestIn m → (r : Register) (w : ℕ) → RestIn (write_at m r w)
-unfolding write_at
-rest_written m h (Other r) w = rest_write_lem r w m.state.rest h
-rest_written m h r w = h
-
-rest_ticked : (s : Crate) (memory : List ℕ) (inputs gates : ℕ) → RestOf s → RestOf (tick_of s memory inputs gates)
-unfolding tick_of rest_tick step_watchdogs
-rest_ticked s memory inputs gates h = record
-    { masks = h.masks; selections = h.selections; blocks = h.blocks; watchdogs = length_each 54 watchdog0 _ s.rest.watchdogs }
-
-rest_tagged : (s : Crate) (t : ℕ) → RestOf s → RestOf (tag_of s t)
-rest_tagged s t h = let n : RestOf (noted_in s t) = assumption in tag_by RestOf s t h n n n n n
-
-rest_called : (m : Machine) → RestIn m → (x : Call) → RestIn (called m x)
-unfolding called
-rest_called m h (tick inputs gates) = both RestIn (bad_levels inputs gates) h (rest_ticked m.state m.memory inputs gates h)
-rest_called m h (write a w) = found RestIn (λ r. write_at m r w) m h (λ r. rest_written m h r w) (decode_of a)
-rest_called m h (tag t) = rest_tagged m.state t h
-rest_called m h (download d words) = both RestIn (is_done (download_answer d (length words))) h h
-
-rest_step : (m : Machine) → RestIn m → (x : Call) → RestIn (step m x)
-unfolding step
-rest_step m h x = both RestIn (is_whole m.memory) (rest_called m h x) h
-
-rest_start : RestIn machine0
-unfolding power_up
-rest_start = record {
-  masks = length_tabulate 6 _;
-  selections = length_tabulate 6 _;
-  blocks = λ o h. ap length (get_d_tabulate 6 (λ o. tabulate 22 (λ k. 0)) o [] h) ∙ length_tabulate 22 _;
-  watchdogs = length_tabulate 54 _;
-}
-
-rest_after : (l : List Call) → RestIn (after l)
-unfolding after
-rest_after = list_keeps RestIn rest_step machine0 rest_start
-
-sized_after : (l : List Call) → Sized (after l)
-unfolding after
-sized_after l = sized_from machine0 sized_start l
+use Rattle.sheet.proofs.Sizes.{Sized, full_after, sized_after}
 
 -- ---- a write and a read, with a whole memory
 
@@ -200,56 +120,56 @@ resets_back n k w xs size inside past =
     let l : n ≤ b = ltb-false b n e in
     low_past n w b l ∙ sym (reset_past k w xs (16 * k + b) (past b h l)))))
 
-setting_back : (s : Crate) → RestOf s → (r : Setting) → InBlock r → (w : ℕ) →
-    setting_word (with_rest s (rest_write r w s.rest)) r ≡ kept (Other r) w
+setting_back : (m : Machine) → Sized m → (r : Setting) → InBlock r → (w : ℕ) →
+    setting_word (with_rest m.state (rest_write r w m.state.rest)) r ≡ kept (Other r) w
 unfolding setting_word rest_write kept
-setting_back s h (Mask k) l w = get_or-set_same s.rest.masks k _ 0 (omega (arith, h.masks))
-setting_back s h WatchdogTimeout l w = refl
-setting_back s h (WatchdogReset k) l w =
+setting_back m h (Mask k) l w = get_or-set_same m.state.rest.masks k _ 0 (omega (arith, h.masks))
+setting_back m h WatchdogTimeout l w = refl
+setting_back m h (WatchdogReset k) l w =
     cases (eqb k 3)
     (λ e.
     let p : k ≡ 3 = eqb-true k 3 e in
-    resets_back 6 k w s.rest.watchdogs (omega arith) (λ b i. omega arith) (λ b i j. omega arith)
+    resets_back 6 k w m.state.rest.watchdogs (omega arith) (λ b i. omega arith) (λ b i j. omega arith)
     ∙ ap (λ (b : Bool). w % 2 ^ pick b 6 16) (sym e))
     (λ e.
     let p : k < 3 = omega (arith, eqb-false k 3 e) in
-    resets_back 16 k w s.rest.watchdogs (omega arith) (λ b i. omega arith) (λ b i j. absurd (omega arith))
+    resets_back 16 k w m.state.rest.watchdogs (omega arith) (λ b i. omega arith) (λ b i j. absurd (omega arith))
     ∙ ap (λ (b : Bool). w % 2 ^ pick b 6 16) (sym e))
-setting_back s h (Selection o k) l w =
-    ap (λ (words : List ℕ). get_or words k 0) (get_or-set_same s.rest.selections o _ [] (omega (arith, h.selections, l.0)))
-    ∙ get_or-set_same (get_or s.rest.selections o []) k _ 0 (omega (arith, h.blocks o l.0, l.1))
+setting_back m h (Selection o k) l w =
+    ap (λ (words : List ℕ). get_or words k 0) (get_or-set_same m.state.rest.selections o _ [] (omega (arith, h.selections, l.0)))
+    ∙ get_or-set_same (get_or m.state.rest.selections o []) k _ 0 (omega (arith, h.blocks o l.0, l.1))
 
 -- a request that is refused stores nothing, and is no accepted write
 reload_back : (w : ℕ) (cm : Common) → reload_answer w cm ≡ Ok tt → (reload_write w cm).reload ≡ kept Reload w
 unfolding reload_write
 reload_back w cm e = grind arith
 
-back_at : (m : Machine) → Sized m → RestIn m → (r : Register) → InMap r → (w : ℕ) → write_answer m.state.common r w ≡ Ok tt →
+back_at : (m : Machine) → Sized m → (r : Register) → InMap r → (w : ℕ) → write_answer m.state.common r w ≡ Ok tt →
     word_in (write_at m r w) r ≡ kept r w
 unfolding write_answer write_at word_in control_write key_write enable_write counter_at gate_at word_at
-back_at m s h (Readout r) l w e = cc
-back_at m s h (Other r) l w e = setting_back m.state h r l w
-back_at m s h Mode l w e = unfold kept in (gates_back mode with_mode (λ b x. refl) w m.state.gates)
-back_at m s h (Timeout g) l w e = ap (λ (x : Gate). x.timeout) (get_or-set_same m.state.gates g _ gate0 (omega (arith, s.gates)))
-back_at m s h Reload l w e = reload_back w m.state.common e
-back_at m s h Prepare l w e = unfold kept in (gates_back prepare with_prepare (λ b x. refl) w m.state.gates)
-back_at m s h Recover l w e = unfold kept in (gates_back recover with_recover (λ b x. refl) w m.state.gates)
-back_at m s h (Input n) l w e = ap (λ (x : Counter). x.input) (get_or-set_same m.state.counters n _ counter0 (omega (arith, s.counters)))
-back_at m s h (Group k) l w e = get_or-set_same m.state.groups k _ 0 (omega (arith, s.groups))
-back_at m s h (Word i) l w e = get_or-set_same m.memory i _ 0 (omega (arith, s.memory))
-back_at m s h r l w e = refl
+back_at m s (Readout r) l w e = cc
+back_at m s (Other r) l w e = setting_back m s r l w
+back_at m s Mode l w e = unfold kept in (gates_back mode with_mode (λ b x. refl) w m.state.gates)
+back_at m s (Timeout g) l w e = ap (λ (x : Gate). x.timeout) (get_or-set_same m.state.gates g _ gate0 (omega (arith, s.gates)))
+back_at m s Reload l w e = reload_back w m.state.common e
+back_at m s Prepare l w e = unfold kept in (gates_back prepare with_prepare (λ b x. refl) w m.state.gates)
+back_at m s Recover l w e = unfold kept in (gates_back recover with_recover (λ b x. refl) w m.state.gates)
+back_at m s (Input n) l w e = ap (λ (x : Counter). x.input) (get_or-set_same m.state.counters n _ counter0 (omega (arith, s.counters)))
+back_at m s (Group k) l w e = get_or-set_same m.state.groups k _ 0 (omega (arith, s.groups))
+back_at m s (Word i) l w e = get_or-set_same m.memory i _ 0 (omega (arith, s.memory))
+back_at m s r l w e = refl
 
 -- after an accepted write a read of the same register gives the word less its unused bits
 pub read_back : (l : List Call) (a w : ℕ) → answer (after l) (write a w) ≡ Ok tt → read_of (step (after l) (write a w)) a ≡ Ok (kept_at a w)
 read_back l a w e =
-    read (step (after l) (write a w)) (full (after l) (sized_after l).memory (write a w)) a
-    ∙ ap (λ (m : Machine). read_in m (decode_of a)) (written (after l) (sized_after l).memory a w)
-    ∙ by (decode_of a) refl (sym (answered (after l) (sized_after l).memory a w) ∙ e)
+    read (step (after l) (write a w)) (full (after l) (full_after l) (write a w)) a
+    ∙ ap (λ (m : Machine). read_in m (decode_of a)) (written (after l) (full_after l) a w)
+    ∙ by (decode_of a) refl (sym (answered (after l) (full_after l) a w) ∙ e)
   where
     by : (o : Option Register) → decode_of a ≡ o → answer_in (after l).state.common o w ≡ Ok tt →
         read_in (write_in (after l) o w) o ≡ Ok (option_map_or (λ (r : Register). kept r w) o 0)
     by None p e = cc
-    by (Some r) p e = ap Ok (back_at (after l) (sized_after l) (rest_after l) r (placed_as a r p).0 w e)
+    by (Some r) p e = ap Ok (back_at (after l) (sized_after l) r (placed_as a r p).0 w e)
 
 -- ---- the other registers: part by part, what a write to r leaves as it was
 
@@ -481,14 +401,14 @@ watchdog_timeout_apart : (w : ℕ) (x : Rest) → RestApart (Other WatchdogTimeo
 unfolding rest_write
 watchdog_timeout_apart w x = grind arith
 
-watchdog_reset_apart : (k w : ℕ) (x : Rest) → RestSized x → RestApart (Other (WatchdogReset k)) (rest_write (WatchdogReset k) w x) x
+watchdog_reset_apart : (k w : ℕ) (x : Rest) → length x.watchdogs ≡ 54 → RestApart (Other (WatchdogReset k)) (rest_write (WatchdogReset k) w x) x
 unfolding rest_write
 watchdog_reset_apart k w x s =
     let resets : (j : ℕ) → (Other (WatchdogReset k) ≡ Other (WatchdogReset j) → ⊥) →
     watchdog_word reset_of (reset_watchdogs k w x.watchdogs) j ≡ watchdog_word reset_of x.watchdogs j =
-    λ j d. watchdogs_apart reset_of k w x.watchdogs s.watchdogs j (λ p. d (ap (λ (i : ℕ). Other (WatchdogReset i)) (sym p))) in
+    λ j d. watchdogs_apart reset_of k w x.watchdogs s j (λ p. d (ap (λ (i : ℕ). Other (WatchdogReset i)) (sym p))) in
     let errors : (j : ℕ) → eqb j k ≡ false → watchdog_word error_of (reset_watchdogs k w x.watchdogs) j ≡ watchdog_word error_of x.watchdogs j =
-    λ j f. watchdogs_apart error_of k w x.watchdogs s.watchdogs j (eqb-false j k f) in
+    λ j f. watchdogs_apart error_of k w x.watchdogs s j (eqb-false j k f) in
     assumption
 
 -- one word of a block is written
@@ -500,52 +420,52 @@ selection_apart : (o k w : ℕ) (x : Rest) → RestApart (Other (Selection o k))
 unfolding rest_write
 selection_apart o k w x = assumption (selected_apart x.selections o k (kept (Other (Selection o k)) w))
 
-setting_written : (m : Machine) → RestIn m → (r : Setting) (w : ℕ) →
+setting_written : (m : Machine) → Sized m → (r : Setting) (w : ℕ) →
     Apart (Other r) (with_state m (with_rest m.state (rest_write r w m.state.rest))) m
 setting_written m h (Mask k) w =
     apart_rest _ m _ (mask_apart k w m.state.rest) (λ f. unfold rest_write interlocks trips signals in refl)
 setting_written m h WatchdogTimeout w =
     apart_rest _ m _ (watchdog_timeout_apart w m.state.rest) (λ f. unfold rest_write interlocks trips signals in refl)
-setting_written m h (WatchdogReset k) w = apart_rest _ m _ (watchdog_reset_apart k w m.state.rest h) (λ f. absurd (true≢false f))
+setting_written m h (WatchdogReset k) w = apart_rest _ m _ (watchdog_reset_apart k w m.state.rest h.watchdogs) (λ f. absurd (true≢false f))
 setting_written m h (Selection o k) w = apart_rest _ m _ (selection_apart o k w m.state.rest) (λ f. absurd (true≢false f))
 
-apart_written : (m : Machine) → Sized m → RestIn m → (r : Register) → InMap r → (w : ℕ) → Apart r (write_at m r w) m
+apart_written : (m : Machine) → Sized m → (r : Register) → InMap r → (w : ℕ) → Apart r (write_at m r w) m
 unfolding write_at
-apart_written m s h (Other r) l w = setting_written m h r w
-apart_written m s h Control l w =
+apart_written m s (Other r) l w = setting_written m s r w
+apart_written m s Control l w =
     let c = apart_counters Control m _ (control_apart w m.state.counters s.counters) (λ f. absurd (true≢false f)) in
     let common = control_common w m.state.common in
     record
     { common = common; gates = c.gates; counters = c.counters; rest = c.rest; groups = c.groups; words = c.words; outputs = λ f. absurd (true≢false f) }
-apart_written m s h Mode l w = apart_gates Mode m _ (bits_apart Mode with_mode mode_apart w m.state.gates s.gates)
-apart_written m s h (Timeout g) l w =
+apart_written m s Mode l w = apart_gates Mode m _ (bits_apart Mode with_mode mode_apart w m.state.gates s.gates)
+apart_written m s (Timeout g) l w =
     apart_gates (Timeout g) m _ (timeout_apart g (kept (Timeout g) w) m.state.gates (omega (arith, s.gates)))
-apart_written m s h Key l w = apart_common Key m _ (key_apart w m.state.common)
-apart_written m s h Enable l w = apart_common Enable m _ (enable_apart w m.state.common)
-apart_written m s h Reload l w = apart_common Reload m _ (reload_apart w m.state.common)
-apart_written m s h Prepare l w = apart_gates Prepare m _ (bits_apart Prepare with_prepare prepare_apart w m.state.gates s.gates)
-apart_written m s h Recover l w = apart_gates Recover m _ (bits_apart Recover with_recover recover_apart w m.state.gates s.gates)
-apart_written m s h (Input n) l w =
+apart_written m s Key l w = apart_common Key m _ (key_apart w m.state.common)
+apart_written m s Enable l w = apart_common Enable m _ (enable_apart w m.state.common)
+apart_written m s Reload l w = apart_common Reload m _ (reload_apart w m.state.common)
+apart_written m s Prepare l w = apart_gates Prepare m _ (bits_apart Prepare with_prepare prepare_apart w m.state.gates s.gates)
+apart_written m s Recover l w = apart_gates Recover m _ (bits_apart Recover with_recover recover_apart w m.state.gates s.gates)
+apart_written m s (Input n) l w =
     let c = input_apart n (kept (Input n) w) m.state.counters (omega (arith, s.counters)) in
     apart_counters (Input n) m _ c (λ f. outputs_counters m.state _ (λ j. (c j).under 0 refl) (λ j. (c j).over 0 refl))
-apart_written m s h (Group k) l w = apart_groups (Group k) m _ (word_apart_from Group m.state.groups k (kept (Group k) w))
-apart_written m s h (Word i) l w =
+apart_written m s (Group k) l w = apart_groups (Group k) m _ (word_apart_from Group m.state.groups k (kept (Group k) w))
+apart_written m s (Word i) l w =
     apart_memory (Word i) m _ (unfold word_at in (word_apart_from Word m.memory i (kept (Word i) w)))
-apart_written m s h r l w = apart_kept r m
+apart_written m s r l w = apart_kept r m
 
 -- and a read of any other register gives what it gave, but for the side effects that `follows` names
 other_register : (l : List Call) (r : Register) → InMap r → (w : ℕ) (q : Register) → (r ≡ q → ⊥) → follows r q ≡ false →
     word_in (write_at (after l) r w) q ≡ word_in (after l) q
-other_register l r i w q d f = word_apart r (write_at (after l) r w) (after l) (apart_written (after l) (sized_after l) (rest_after l) r i w) q d f
+other_register l r i w q d f = word_apart r (write_at (after l) r w) (after l) (apart_written (after l) (sized_after l) r i w) q d f
 
 -- a write where there is no register leaves all, and where there is none a read is refused
 pub read_other : (l : List Call) (a w b : ℕ) → (a ≡ b → ⊥) → follows_at a b ≡ false →
     read_of (step (after l) (write a w)) b ≡ read_of (after l) b
 read_other l a w b d f =
-    read (step (after l) (write a w)) (full (after l) (sized_after l).memory (write a w)) b
-    ∙ ap (λ (m : Machine). read_in m (decode_of b)) (written (after l) (sized_after l).memory a w)
+    read (step (after l) (write a w)) (full (after l) (full_after l) (write a w)) b
+    ∙ ap (λ (m : Machine). read_in m (decode_of b)) (written (after l) (full_after l) a w)
     ∙ by (decode_of a) refl (decode_of b) refl
-    ∙ sym (read (after l) (sized_after l).memory b)
+    ∙ sym (read (after l) (full_after l) b)
   where
     by : (o : Option Register) → decode_of a ≡ o → (p : Option Register) → decode_of b ≡ p → read_in (write_in (after l) o w) p ≡ read_in (after l) p
     by None e p q = refl

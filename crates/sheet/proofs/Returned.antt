@@ -35,7 +35,7 @@ use Rattle.sheet.specs.Returned.{Act, calling, reading, scanning, tracing, Looke
 use Rattle.sheet.specs.Scans.{scan_at}
 use Rattle.sheet.specs.Sheet.{sheet_after, sheet_shows}
 use Rattle.sheet.specs.Shows.{shows}
-use Rattle.sheet.proofs.Finishes.{full_after}
+use Rattle.sheet.proofs.Sizes.{full_after}
 use Rattle.sheet.proofs.Theorems.{alike_cut, finishes, isolation, raw_reads, reachable, read_back, read_other, refused, run_is_list, run_records, run_refusals, run_sound, run_stops, run_ticks, scan_ends, scan_least, scan_level, scan_whole}
 
 -- one run

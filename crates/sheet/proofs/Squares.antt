@@ -35,7 +35,9 @@ use Rattle.sheet.specs.Lines.{Lines}
 use Rattle.sheet.specs.OwnPart.{four_of, own, own_at, own_tag, own_word}
 use Rattle.sheet.specs.Sheet.{put_gates, put_four, reset_counter, sheet_command, sheet_load, sheet_step, sheet_tag, sheet_tick}
 use Rattle.sheet.proofs.OwnTag.{own_tag_command, own_tag_gates, own_tag_key, own_tag_whole}
-use Rattle.sheet.proofs.Projection.{Fits, Sized, counter_tick_own, own_gates_each, own_gates_other, own_gates_set, own_place, own_words}
+use Rattle.sheet.proofs.Sizes.{Sized}
+use Rattle.sheet.proofs.Projection.{Fits, counter_tick_own, own_gates_each, own_gates_other, own_gates_set, own_place, own_words}
+use Rattle.sheet.proofs.Sizes.{Sized}
 use Rattle.sheet.proofs.Projection.{own_words_at, own_words_first, sheet≡, sheet_in}
 use Rattle.sheet.proofs.Fed.{sheet_step_by}
 

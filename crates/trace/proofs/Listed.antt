@@ -17,7 +17,8 @@ use Rattle.registers.specs.Calls.{Call, tick, write, tag, accepted_ticks, answer
 use Rattle.device.specs.State.{Machine}
 use Rattle.lines.specs.declared.levels.Levels.{Levels}
 use Rattle.lines.specs.Lines.{bad_levels}
-use Rattle.registers.proofs.Lists.{from_append, full_from, refusals_append, refusals_repeated, ticks_append, ticks_repeated}
+use Rattle.registers.proofs.Whole.{full_from}
+use Rattle.registers.proofs.Lists.{from_append, refusals_append, refusals_repeated, ticks_append, ticks_repeated}
 use Rattle.records.specs.declared.Record.TheVariants.{Ticks, Write, Tag}
 use Rattle.records.specs.declared.Stop.{Stop}
 use Rattle.records.specs.declared.Stop.TheVariants.{End, Spent, Refused}
