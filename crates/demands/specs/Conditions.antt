@@ -6,7 +6,7 @@ use Rattle.bools.specs.Pick.{pick}
 use Rattle.causes.specs.declared.Cause.{Cause}
 use Rattle.causes.specs.declared.Cause.TheVariants.{Memory, Address, ReadOnly, Dataset, Full, Level, UnknownTag, WrongLength, Cut, NoRepeat, Length}
 use Rattle.device.specs.declared.map.Register.{Register}
-use Rattle.device.specs.declared.map.Register.TheVariants.{Readout, Other, Control, Mode, Timeout, Key, Enable, Reload, Prepare, Recover, Input, Group, Word}
+use Rattle.device.specs.declared.map.Register.TheVariants.{Readout}
 use Rattle.causes.specs.Causes.{Answer, is_done, number_of}
 use Rattle.device.specs.Map.{decode_of}
 use Rattle.device.specs.State.{Machine, with_memory, with_state}
@@ -54,18 +54,7 @@ pub data Access : Type 0 where
 
 abbrev pub access_of : Register → Access
 access_of (Readout q) = readable
-access_of (Other q) = writable
-access_of Control = writable
-access_of Mode = writable
-access_of (Timeout g) = writable
-access_of Key = writable
-access_of Enable = writable
-access_of Reload = writable
-access_of Prepare = writable
-access_of Recover = writable
-access_of (Input n) = writable
-access_of (Group k) = writable
-access_of (Word i) = writable
+access_of r = writable
 
 -- "address not in the map"
 abbrev pub is_outside : Access → Bool

@@ -4,10 +4,12 @@ use mathlib.Core.Bool.{true}
 use mathlib.Core.List.{List, [], ◌∷◌}
 use mathlib.Core.Path.{◌≡◌, refl}
 use Rattle.lists.specs.Checks.{Row, row, right}
-use Rattle.device.specs.declared.map.Register.TheVariants.{Readout, Other, Control, Mode, Timeout, Key, Enable, Reload, Prepare, Recover, Input, Group, Word}
-use Rattle.device.specs.declared.map.Setting.TheVariants.{Mask, WatchdogTimeout, WatchdogReset, Selection}
-use Rattle.device.specs.declared.map.Status.TheVariants.{Module, Negative, Positive, GateErrors, WatchdogErrors, GateInputs, GateOutputs, Outputs}
-use Rattle.device.specs.declared.map.Status.TheVariants.{GateStates, TagLow, TagHigh, Code, LoaderState, LoaderCounter, Count, Raw, Threshold}
+use Rattle.device.specs.declared.map.GateWord.TheVariants.{Mode, Timeout, Prepare, Recover}
+use Rattle.device.specs.declared.map.ReadoutWord.TheVariants.{Module, Negative, Positive, GateErrors, WatchdogErrors, GateInputs, GateOutputs, Outputs}
+use Rattle.device.specs.declared.map.ReadoutWord.TheVariants.{GateStates, TagLow, TagHigh, Code, LoaderState, LoaderCounter, Count, Raw, Threshold}
+use Rattle.device.specs.declared.map.Register.TheVariants.{Readout, Setting, Shared, Gates, Watchdogs, Input, Group, Word}
+use Rattle.device.specs.declared.map.SettingWord.TheVariants.{Mask, WatchdogTimeout, Selection}
+use Rattle.device.specs.declared.map.SharedWord.TheVariants.{Control, Key, Enable, Reload}
 use Rattle.device.specs.Map.{used_bits}
 
 unfoldable pub figures : List Row
@@ -32,25 +34,25 @@ figures =
     ∷ row 16 (used_bits (Readout (Raw 0)))
     ∷ row 16 (used_bits (Readout (Threshold 0)))
     -- registers that are in no counter's sheet; of an output's 22 words 0x10 and 0x15 are for gates, 0x14 for inputs 48 to 53
-    ∷ row 12 (used_bits (Other (Mask 0)))
-    ∷ row 16 (used_bits (Other WatchdogTimeout))
-    ∷ row 16 (used_bits (Other (WatchdogReset 2)))
-    ∷ row 6 (used_bits (Other (WatchdogReset 3)))
-    ∷ row 16 (used_bits (Other (Selection 0 0x0F)))
-    ∷ row 12 (used_bits (Other (Selection 0 0x10)))
-    ∷ row 16 (used_bits (Other (Selection 0 0x13)))
-    ∷ row 6 (used_bits (Other (Selection 0 0x14)))
-    ∷ row 12 (used_bits (Other (Selection 0 0x15)))
-    ∷ row 16 (used_bits (Other (Selection 1 0)))
+    ∷ row 12 (used_bits (Setting (Mask 0)))
+    ∷ row 16 (used_bits (Setting WatchdogTimeout))
+    ∷ row 16 (used_bits (Watchdogs 2))
+    ∷ row 6 (used_bits (Watchdogs 3))
+    ∷ row 16 (used_bits (Setting (Selection 0 0x0F)))
+    ∷ row 12 (used_bits (Setting (Selection 0 0x10)))
+    ∷ row 16 (used_bits (Setting (Selection 0 0x13)))
+    ∷ row 6 (used_bits (Setting (Selection 0 0x14)))
+    ∷ row 12 (used_bits (Setting (Selection 0 0x15)))
+    ∷ row 16 (used_bits (Setting (Selection 1 0)))
     -- the others
-    ∷ row 2 (used_bits Control)
-    ∷ row 12 (used_bits Mode)
-    ∷ row 16 (used_bits (Timeout 0))
-    ∷ row 16 (used_bits Key)
-    ∷ row 1 (used_bits Enable)
-    ∷ row 13 (used_bits Reload)
-    ∷ row 12 (used_bits Prepare)
-    ∷ row 12 (used_bits Recover)
+    ∷ row 2 (used_bits (Shared Control))
+    ∷ row 12 (used_bits (Gates Mode))
+    ∷ row 16 (used_bits (Gates (Timeout 0)))
+    ∷ row 16 (used_bits (Shared Key))
+    ∷ row 1 (used_bits (Shared Enable))
+    ∷ row 13 (used_bits (Shared Reload))
+    ∷ row 12 (used_bits (Gates Prepare))
+    ∷ row 12 (used_bits (Gates Recover))
     ∷ row 16 (used_bits (Input 0))
     ∷ row 16 (used_bits (Group 0))
     ∷ row 16 (used_bits (Word 0))

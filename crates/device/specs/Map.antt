@@ -4,13 +4,18 @@ use Rattle.std.specs.Prelude.{ℕ, ◌-◌, ◌/◌, ◌%◌, Option, Some, None
 use Rattle.std.specs.Option.{option_map_or}
 use Rattle.bools.specs.Pick.{pick}
 use Rattle.words.specs.Word.{lowest}
+use Rattle.lines.specs.Lines.{gate_count}
+use Rattle.device.specs.declared.map.GateWord.{GateWord}
+use Rattle.device.specs.declared.map.GateWord.TheVariants.{Mode, Timeout, Prepare, Recover}
+use Rattle.device.specs.declared.map.ReadoutWord.{ReadoutWord}
+use Rattle.device.specs.declared.map.ReadoutWord.TheVariants.{Module, Negative, Positive, GateErrors, WatchdogErrors, GateInputs, GateOutputs, Outputs}
+use Rattle.device.specs.declared.map.ReadoutWord.TheVariants.{GateStates, TagLow, TagHigh, Code, LoaderState, LoaderCounter, Count, Raw, Threshold}
 use Rattle.device.specs.declared.map.Register.{Register}
-use Rattle.device.specs.declared.map.Register.TheVariants.{Readout, Other, Control, Mode, Timeout, Key, Enable, Reload, Prepare, Recover, Input, Group, Word}
-use Rattle.device.specs.declared.map.Setting.{Setting}
-use Rattle.device.specs.declared.map.Setting.TheVariants.{Mask, WatchdogTimeout, WatchdogReset, Selection}
-use Rattle.device.specs.declared.map.Status.{Status}
-use Rattle.device.specs.declared.map.Status.TheVariants.{Module, Negative, Positive, GateErrors, WatchdogErrors, GateInputs, GateOutputs, Outputs}
-use Rattle.device.specs.declared.map.Status.TheVariants.{GateStates, TagLow, TagHigh, Code, LoaderState, LoaderCounter, Count, Raw, Threshold}
+use Rattle.device.specs.declared.map.Register.TheVariants.{Readout, Setting, Shared, Gates, Watchdogs, Input, Group, Word}
+use Rattle.device.specs.declared.map.SettingWord.{SettingWord}
+use Rattle.device.specs.declared.map.SettingWord.TheVariants.{Mask, WatchdogTimeout, Selection}
+use Rattle.device.specs.declared.map.SharedWord.{SharedWord}
+use Rattle.device.specs.declared.map.SharedWord.TheVariants.{Control, Key, Enable, Reload}
 
 -- what stands below an edge, else what the rest of the map says
 abbrev pub below : ℕ → ℕ → Option Register → Option Register → Option Register
@@ -21,7 +26,7 @@ abbrev pub output_words : ℕ
 output_words = 22
 
 abbrev pub output_block : ℕ → Option Register
-output_block k = pick (ltb (k % 32) output_words) (Some (Other (Selection (k / 32) (k % 32)))) None
+output_block k = pick (ltb (k % 32) output_words) (Some (Setting (Selection (k / 32) (k % 32)))) None
 
 -- The map in address order, a superblock or two to a page. A row is the first address past it and what stands up to there; gaps are
 -- rows of their own: "an address at which they name no register, or one not modelled, is not in it". A Readout is read-only;
@@ -31,7 +36,7 @@ output_block k = pick (ltb (k % 32) output_words) (Some (Other (Selection (k / 3
 unfoldable pub backplane_map : ℕ → Option Register
 backplane_map a =
     below a 0x0630 None
-    (below a 0x0636 (Some (Other (Mask (a - 0x0630))))  -- IOBP_MASK BP_MASK0-1 to BP_MASK10-11
+    (below a 0x0636 (Some (Setting (Mask (a - 0x0630))))  -- IOBP_MASK BP_MASK0-1 to BP_MASK10-11
     (below a 0x0638 None
     (below a 0x063E (Some (Readout (Module (a - 0x0638))))  -- IOBP_ID BP_ID0-1 to BP_ID10-11
     None)))
@@ -53,12 +58,12 @@ status_map a =
 -- for 0x0800 to 0x08FF
 unfoldable pub control_map : ℕ → Option Register
 control_map a =
-    below a 0x0801 (Some (Other WatchdogTimeout))  -- CTRL WDOG_TIMEOUT
-    (below a 0x0802 (Some Control)  -- CTRL COUNTERS
-    (below a 0x0803 (Some Mode)  -- CTRL GATE_MODE
+    below a 0x0801 (Some (Setting WatchdogTimeout))  -- CTRL WDOG_TIMEOUT
+    (below a 0x0802 (Some (Shared Control))  -- CTRL COUNTERS
+    (below a 0x0803 (Some (Gates Mode))  -- CTRL GATE_MODE
     (below a 0x0804 None
-    (below a 0x0810 (Some (Timeout (a - 0x0804)))  -- CTRL GATE_TIMEOUT
-    (below a 0x0814 (Some (Other (WatchdogReset (a - 0x0810))))  -- CTRL WD_RESET
+    (below a 0x0810 (Some (Gates (Timeout (a - 0x0804))))  -- CTRL GATE_TIMEOUT
+    (below a 0x0814 (Some (Watchdogs (a - 0x0810)))  -- CTRL WD_RESET
     None)))))
 
 -- for 0x0900 to 0x0FFF; 0x0905 THR_LOADER_ENQ_STATE is not modelled
@@ -70,11 +75,11 @@ event_map a =
     (below a 0x0904 (Some (Readout LoaderState))  -- EVT_STATUS THR_LOADER_STATE
     (below a 0x0905 (Some (Readout LoaderCounter))  -- EVT_STATUS THR_LOADER_ITER
     (below a 0x0A00 None
-    (below a 0x0A01 (Some Key)  -- EVT_CTRL KEY
-    (below a 0x0A02 (Some Enable)  -- EVT_CTRL CTRL
-    (below a 0x0A03 (Some Reload)  -- EVT_CTRL THR_RELOAD
-    (below a 0x0A04 (Some Prepare)  -- EVT_CTRL GATE_PREP
-    (below a 0x0A05 (Some Recover)  -- EVT_CTRL GATE_RECOVER
+    (below a 0x0A01 (Some (Shared Key))  -- EVT_CTRL KEY
+    (below a 0x0A02 (Some (Shared Enable))  -- EVT_CTRL CTRL
+    (below a 0x0A03 (Some (Shared Reload))  -- EVT_CTRL THR_RELOAD
+    (below a 0x0A04 (Some (Gates Prepare))  -- EVT_CTRL GATE_PREP
+    (below a 0x0A05 (Some (Gates Recover))  -- EVT_CTRL GATE_RECOVER
     None))))))))))
 
 -- for 0x1000 on
@@ -106,46 +111,44 @@ decode_of a =
 abbrev pub selection_bits : ℕ → ℕ
 selection_bits k = pick (eqb k 0x10) 12 (pick (eqb k 0x14) 6 (pick (eqb k 0x15) 12 16))
 
--- how many bits are used, from bit 0: watchdog words end at input 53, gate words at gate 11, outputs at 5
-abbrev pub status_bits : Status → ℕ
-status_bits (Module k) = 16
-status_bits (Negative k) = 16
-status_bits (Positive k) = 16
-status_bits GateErrors = 12
-status_bits (WatchdogErrors k) = pick (eqb k 3) 6 16
-status_bits GateInputs = 12
-status_bits GateOutputs = 12
-status_bits Outputs = 6
-status_bits (GateStates k) = 16
-status_bits TagLow = 16
-status_bits TagHigh = 16
-status_bits Code = 16
-status_bits LoaderState = 2
-status_bits LoaderCounter = 7
-status_bits (Count k) = 16
-status_bits (Raw k) = 16
-status_bits (Threshold k) = 16
+-- How many bits are used, from bit 0: watchdog words end at input 53, gate words at gate 11, outputs at 5. Registers that no line names use
+-- all 16.
 
-abbrev pub setting_bits : Setting → ℕ
+abbrev pub watchdog_bits : ℕ → ℕ
+watchdog_bits k = pick (eqb k 3) 6 16
+
+abbrev pub readout_bits : ReadoutWord → ℕ
+readout_bits GateErrors = 12
+readout_bits (WatchdogErrors k) = watchdog_bits k
+readout_bits GateInputs = 12
+readout_bits GateOutputs = 12
+readout_bits Outputs = 6
+readout_bits LoaderState = 2
+readout_bits LoaderCounter = 7
+readout_bits q = 16
+
+abbrev pub setting_bits : SettingWord → ℕ
 setting_bits (Mask k) = 12
-setting_bits WatchdogTimeout = 16
-setting_bits (WatchdogReset k) = pick (eqb k 3) 6 16
 setting_bits (Selection o k) = selection_bits k
+setting_bits q = 16
+
+abbrev pub shared_bits : SharedWord → ℕ
+shared_bits Control = 2
+shared_bits Enable = 1
+shared_bits Reload = 13
+shared_bits q = 16
+
+abbrev pub gate_word_bits : GateWord → ℕ
+gate_word_bits (Timeout g) = 16
+gate_word_bits q = gate_count
 
 abbrev pub used_bits : Register → ℕ
-used_bits (Readout r) = status_bits r
-used_bits (Other r) = setting_bits r
-used_bits Control = 2
-used_bits Mode = 12
-used_bits (Timeout g) = 16
-used_bits Key = 16
-used_bits Enable = 1
-used_bits Reload = 13
-used_bits Prepare = 12
-used_bits Recover = 12
-used_bits (Input n) = 16
-used_bits (Group k) = 16
-used_bits (Word i) = 16
+used_bits (Readout q) = readout_bits q
+used_bits (Setting q) = setting_bits q
+used_bits (Shared q) = shared_bits q
+used_bits (Gates q) = gate_word_bits q
+used_bits (Watchdogs k) = watchdog_bits k
+used_bits q = 16
 
 -- "Unused bits are dropped"
 unfoldable pub kept : Register → ℕ → ℕ

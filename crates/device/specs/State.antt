@@ -14,26 +14,41 @@ use Rattle.watchdogs.specs.Watchdog.{watchdog0}
 use Rattle.device.specs.declared.state.Common.{Common}
 use Rattle.device.specs.declared.state.Crate.{Crate}
 use Rattle.device.specs.declared.state.Events.{Events}
-use Rattle.device.specs.declared.state.Rest.{Rest}
+use Rattle.device.specs.declared.state.Settings.{Settings}
+use Rattle.device.specs.declared.state.Status.{Status}
 
-abbrev pub crate_of : List Counter → List ℕ → List Gate → ℕ → Common → Rest → Crate
-crate_of counters groups gates levels common rest =
-    record { counters = counters; groups = groups; gates = gates; levels = levels; common = common; rest = rest }
+abbrev pub crate_of : List Counter → List ℕ → List Gate → List Watchdog → ℕ → Common → Settings → Status → Crate
+crate_of counters groups gates watchdogs levels common settings status = record {
+  counters = counters;
+  groups = groups;
+  gates = gates;
+  watchdogs = watchdogs;
+  levels = levels;
+  common = common;
+  settings = settings;
+  status = status;
+}
 
 abbrev pub with_counters : Crate → List Counter → Crate
-with_counters s x = crate_of x s.groups s.gates s.levels s.common s.rest
+with_counters s x = crate_of x s.groups s.gates s.watchdogs s.levels s.common s.settings s.status
 
 abbrev pub with_groups : Crate → List ℕ → Crate
-with_groups s x = crate_of s.counters x s.gates s.levels s.common s.rest
+with_groups s x = crate_of s.counters x s.gates s.watchdogs s.levels s.common s.settings s.status
 
 abbrev pub with_gates : Crate → List Gate → Crate
-with_gates s x = crate_of s.counters s.groups x s.levels s.common s.rest
+with_gates s x = crate_of s.counters s.groups x s.watchdogs s.levels s.common s.settings s.status
+
+abbrev pub with_watchdogs : Crate → List Watchdog → Crate
+with_watchdogs s x = crate_of s.counters s.groups s.gates x s.levels s.common s.settings s.status
 
 abbrev pub with_common : Crate → Common → Crate
-with_common s x = crate_of s.counters s.groups s.gates s.levels x s.rest
+with_common s x = crate_of s.counters s.groups s.gates s.watchdogs s.levels x s.settings s.status
 
-abbrev pub with_rest : Crate → Rest → Crate
-with_rest s x = crate_of s.counters s.groups s.gates s.levels s.common x
+abbrev pub with_settings : Crate → Settings → Crate
+with_settings s x = crate_of s.counters s.groups s.gates s.watchdogs s.levels s.common x s.status
+
+abbrev pub with_status : Crate → Status → Crate
+with_status s x = crate_of s.counters s.groups s.gates s.watchdogs s.levels s.common s.settings x
 
 -- what all counters share: the four registers 0x0801, 0x0A00, 0x0A01, 0x0A02, the queue, the loader, the phases
 
@@ -54,24 +69,36 @@ with_registers cm control key enable reload = common_of control key enable reloa
 abbrev pub with_queue : Common → Queue → Common
 with_queue cm q = common_of cm.control cm.key cm.enable cm.reload q cm.loader cm.phases
 
--- what no counter sees
+-- what writes alone change and no counter sees
 
-abbrev pub rest_of : List ℕ → ℕ → List (List ℕ) → List Watchdog → List ℕ → ℕ → Events → Rest
-rest_of masks timeout selections watchdogs rawcounts gatelevels events = record {
-  masks = masks;
-  timeout = timeout;
-  selections = selections;
-  watchdogs = watchdogs;
-  rawcounts = rawcounts;
-  gatelevels = gatelevels;
-  events = events;
-}
+abbrev pub settings_of : List ℕ → ℕ → List (List ℕ) → Settings
+settings_of masks timeout selections = record { masks = masks; timeout = timeout; selections = selections }
+
+abbrev pub with_masks : Settings → List ℕ → Settings
+with_masks s x = settings_of x s.timeout s.selections
+
+abbrev pub with_watchdog_timeout : Settings → ℕ → Settings
+with_watchdog_timeout s x = settings_of s.masks x s.selections
+
+abbrev pub with_selections : Settings → List (List ℕ) → Settings
+with_selections s x = settings_of s.masks s.timeout x
+
+-- what ticks and tags alone change and no counter sees
 
 abbrev pub events_of : ℕ → ℕ → ℕ → ℕ → Events
 events_of low high code handled = record { low = low; high = high; code = code; handled = handled }
 
-abbrev pub with_events : Rest → Events → Rest
-with_events r e = rest_of r.masks r.timeout r.selections r.watchdogs r.rawcounts r.gatelevels e
+abbrev pub status_of : List ℕ → ℕ → Events → Status
+status_of rawcounts gatelevels events = record { rawcounts = rawcounts; gatelevels = gatelevels; events = events }
+
+abbrev pub with_rawcounts : Status → List ℕ → Status
+with_rawcounts s x = status_of x s.gatelevels s.events
+
+abbrev pub with_gatelevels : Status → ℕ → Status
+with_gatelevels s x = status_of s.rawcounts x s.events
+
+abbrev pub with_events : Status → Events → Status
+with_events s x = status_of s.rawcounts s.gatelevels x
 
 -- "one crate and one memory"
 pub record Machine : Type 0 where
@@ -93,13 +120,16 @@ with_memory m memory = machine m.state memory
 abbrev pub common0 : Common
 common0 = common_of 0 0 0 0 queue0 loader0 (tabulate 9 (λ k. 0))
 
-abbrev pub rest0 : Rest
-rest0 =
-    rest_of (tabulate 6 (λ k. 0)) 65535 (tabulate 6 (λ o. tabulate 22 (λ k. 0))) (tabulate input_count (λ i. watchdog0))
-    (tabulate input_count (λ i. 0)) 0 (events_of 0 0 0 0)
+abbrev pub settings0 : Settings
+settings0 = settings_of (tabulate 6 (λ k. 0)) 65535 (tabulate 6 (λ o. tabulate 22 (λ k. 0)))
+
+abbrev pub status0 : Status
+status0 = status_of (tabulate input_count (λ i. 0)) 0 (events_of 0 0 0 0)
 
 unfoldable pub power_up : Crate
-power_up = crate_of (tabulate counter_count (λ n. counter0)) (tabulate 32 (λ k. 0)) (tabulate gate_count (λ g. gate0)) 0 common0 rest0
+power_up =
+    crate_of (tabulate counter_count (λ n. counter0)) (tabulate 32 (λ k. 0)) (tabulate gate_count (λ g. gate0))
+    (tabulate input_count (λ i. watchdog0)) 0 common0 settings0 status0
 
 -- "16,384 lent words, .. cleared at power-up"
 unfoldable pub memory0 : List ℕ

@@ -4,5 +4,5 @@
 mod map;
 mod state;
 
-pub use map::{Register, Setting, Status, decode};
-pub use state::{Common, Crate, Events, Rest};
+pub use map::{GateWord, ReadoutWord, Register, SettingWord, SharedWord, decode};
+pub use state::{Common, Crate, Events, Settings, Status};

@@ -2,20 +2,18 @@
 ghost use Rattle.std.specs.Prelude.{◌≡◌, ◌≤◌};
 ghost use Rattle.device.specs.Map.{output_block, backplane_map, status_map, control_map, event_map, counter_map, decode_of};
 
+// A register by the part of the state that a write to it changes, so that a new register joins a part.
 #[derive(Clone, Copy)]
 pub enum Register {
-    // read-only registers
-    Readout(Status),
-    // registers that are in no counter's sheet
-    Other(Setting),
-    Control,
-    Mode,
-    Timeout(u16),
-    Key,
-    Enable,
-    Reload,
-    Prepare,
-    Recover,
+    // no part: read-only
+    Readout(ReadoutWord),
+    // the settings, which are in no counter's sheet
+    Setting(SettingWord),
+    // what all counters share
+    Shared(SharedWord),
+    Gates(GateWord),
+    // word k of the watchdogs' reset bits
+    Watchdogs(u16),
     Input(u16),
     Group(u16),
     // a word of the threshold memory
@@ -23,7 +21,7 @@ pub enum Register {
 }
 
 #[derive(Clone, Copy)]
-pub enum Status {
+pub enum ReadoutWord {
     Module(u16),
     Negative(u16),
     Positive(u16),
@@ -44,12 +42,27 @@ pub enum Status {
 }
 
 #[derive(Clone, Copy)]
-pub enum Setting {
+pub enum SettingWord {
     Mask(u16),
     WatchdogTimeout,
-    WatchdogReset(u16),
     // a word of an output's block, which has 22
     Selection { output: u16, place: u16 },
+}
+
+#[derive(Clone, Copy)]
+pub enum SharedWord {
+    Control,
+    Key,
+    Enable,
+    Reload,
+}
+
+#[derive(Clone, Copy)]
+pub enum GateWord {
+    Mode,
+    Timeout(u16),
+    Prepare,
+    Recover,
 }
 
 // A page's function takes a whole address, and promises what stands there from the page's first one on. By the place within the page a read of
@@ -61,8 +74,8 @@ fn backplane_map(a: u16) -> Option<Register>
     ensures { result ≡ backplane_map a }
 {
     match a {
-        0x0630..=0x0635 => Some(Register::Other(Setting::Mask(a - 0x0630))),
-        0x0638..=0x063D => Some(Register::Readout(Status::Module(a - 0x0638))),
+        0x0630..=0x0635 => Some(Register::Setting(SettingWord::Mask(a - 0x0630))),
+        0x0638..=0x063D => Some(Register::Readout(ReadoutWord::Module(a - 0x0638))),
         _ => None,
     }
 }
@@ -72,18 +85,18 @@ fn backplane_map(a: u16) -> Option<Register>
 fn status_map(a: u16) -> Option<Register>
     ensures { 0x0700 ≤ a → result ≡ status_map a }
 {
-    let status = match a {
-        0x0700..=0x0707 => Status::Negative(a - 0x0700),
-        0x0708..=0x070F => Status::Positive(a - 0x0708),
-        0x0710 => Status::GateErrors,
-        0x0711..=0x0714 => Status::WatchdogErrors(a - 0x0711),
-        0x0717 => Status::GateInputs,
-        0x0718 => Status::GateOutputs,
-        0x0719 => Status::Outputs,
-        0x071A..=0x071C => Status::GateStates(a - 0x071A),
+    let word = match a {
+        0x0700..=0x0707 => ReadoutWord::Negative(a - 0x0700),
+        0x0708..=0x070F => ReadoutWord::Positive(a - 0x0708),
+        0x0710 => ReadoutWord::GateErrors,
+        0x0711..=0x0714 => ReadoutWord::WatchdogErrors(a - 0x0711),
+        0x0717 => ReadoutWord::GateInputs,
+        0x0718 => ReadoutWord::GateOutputs,
+        0x0719 => ReadoutWord::Outputs,
+        0x071A..=0x071C => ReadoutWord::GateStates(a - 0x071A),
         _ => return None,
     };
-    Some(Register::Readout(status))
+    Some(Register::Readout(word))
 }
 
 // 0x0800 to 0x08FF.
@@ -92,11 +105,11 @@ fn control_map(a: u16) -> Option<Register>
     ensures { 0x0800 ≤ a → result ≡ control_map a }
 {
     match a {
-        0x0800 => Some(Register::Other(Setting::WatchdogTimeout)),
-        0x0801 => Some(Register::Control),
-        0x0802 => Some(Register::Mode),
-        0x0804..=0x080F => Some(Register::Timeout(a - 0x0804)),
-        0x0810..=0x0813 => Some(Register::Other(Setting::WatchdogReset(a - 0x0810))),
+        0x0800 => Some(Register::Setting(SettingWord::WatchdogTimeout)),
+        0x0801 => Some(Register::Shared(SharedWord::Control)),
+        0x0802 => Some(Register::Gates(GateWord::Mode)),
+        0x0804..=0x080F => Some(Register::Gates(GateWord::Timeout(a - 0x0804))),
+        0x0810..=0x0813 => Some(Register::Watchdogs(a - 0x0810)),
         _ => None,
     }
 }
@@ -107,16 +120,16 @@ fn event_map(a: u16) -> Option<Register>
     ensures { 0x0900 ≤ a → result ≡ event_map a }
 {
     match a {
-        0x0900 => Some(Register::Readout(Status::TagLow)),
-        0x0901 => Some(Register::Readout(Status::TagHigh)),
-        0x0902 => Some(Register::Readout(Status::Code)),
-        0x0903 => Some(Register::Readout(Status::LoaderState)),
-        0x0904 => Some(Register::Readout(Status::LoaderCounter)),
-        0x0A00 => Some(Register::Key),
-        0x0A01 => Some(Register::Enable),
-        0x0A02 => Some(Register::Reload),
-        0x0A03 => Some(Register::Prepare),
-        0x0A04 => Some(Register::Recover),
+        0x0900 => Some(Register::Readout(ReadoutWord::TagLow)),
+        0x0901 => Some(Register::Readout(ReadoutWord::TagHigh)),
+        0x0902 => Some(Register::Readout(ReadoutWord::Code)),
+        0x0903 => Some(Register::Readout(ReadoutWord::LoaderState)),
+        0x0904 => Some(Register::Readout(ReadoutWord::LoaderCounter)),
+        0x0A00 => Some(Register::Shared(SharedWord::Key)),
+        0x0A01 => Some(Register::Shared(SharedWord::Enable)),
+        0x0A02 => Some(Register::Shared(SharedWord::Reload)),
+        0x0A03 => Some(Register::Gates(GateWord::Prepare)),
+        0x0A04 => Some(Register::Gates(GateWord::Recover)),
         _ => None,
     }
 }
@@ -128,7 +141,7 @@ fn output_block(k: u16) -> Option<Register>
 {
     let (output, place) = (k / 32, k % 32);
     if place < 22 {
-        return Some(Register::Other(Setting::Selection { output, place }));
+        return Some(Register::Setting(SettingWord::Selection { output, place }));
     }
     None
 }
@@ -141,10 +154,10 @@ fn counter_map(a: u16) -> Option<Register>
     match a {
         0x1000..=0x107F => Some(Register::Input(a - 0x1000)),
         0x1100..=0x11BF => output_block(a - 0x1100),
-        0x1200..=0x12FF => Some(Register::Readout(Status::Count(a - 0x1200))),
-        0x1300..=0x136B => Some(Register::Readout(Status::Raw(a - 0x1300))),
+        0x1200..=0x12FF => Some(Register::Readout(ReadoutWord::Count(a - 0x1200))),
+        0x1300..=0x136B => Some(Register::Readout(ReadoutWord::Raw(a - 0x1300))),
         0x1600..=0x161F => Some(Register::Group(a - 0x1600)),
-        0x1800..=0x19FF => Some(Register::Readout(Status::Threshold(a - 0x1800))),
+        0x1800..=0x19FF => Some(Register::Readout(ReadoutWord::Threshold(a - 0x1800))),
         0x8000..=0xBFFF => Some(Register::Word(a - 0x8000)),
         _ => None,
     }

@@ -1,6 +1,7 @@
-// The crate's state: what each counter and gate has, what all counters share, and what no counter sees. The defaults are those of power-up.
+// The crate's state: what each counter and gate has, what all counters share, and what no counter sees: the settings, which writes
+// alone change, and the status, which ticks and tags alone change. The defaults are those of power-up.
 ghost use Rattle.std.specs.Prelude.{◌≡◌};
-ghost use Rattle.device.specs.State.{rest0, power_up};
+ghost use Rattle.device.specs.State.{power_up, settings0, status0};
 
 use counters::Counter;
 use gates::Gate;
@@ -14,10 +15,13 @@ pub struct Crate {
     // write would take one apart
     pub groups: [u16; 32],
     pub gates: [Gate; 12],
-    // the input levels of the last tick; every counter sees them, and no counter sees the gate levels in `rest`, so they are not one `Levels`
+    // beside the raw counts: each is stepped, reset and read by itself, and nothing takes both of one input
+    pub watchdogs: [Watchdog; 54],
+    // the input levels of the last tick; every counter sees them, and no counter sees the gate levels in `status`, so they are not one `Levels`
     pub levels: u64,
     pub common: Common,
-    pub rest: Rest,
+    pub settings: Settings,
+    pub status: Status,
 }
 
 // By hand: with the derived one the proof that its 128 counters and twelve gates are those of power-up does not close.
@@ -30,9 +34,11 @@ impl Default for Crate {
             counters: [Counter::default(); 128],
             groups: [0; 32],
             gates: [Gate::default(); 12],
+            watchdogs: [Watchdog::default(); 54],
             levels: 0,
             common: Common::default(),
-            rest: Rest::default(),
+            settings: Settings::default(),
+            status: Status::default(),
         }
     }
 }
@@ -51,15 +57,31 @@ pub struct Common {
     pub phases: [u32; 9],
 }
 
-// What no counter sees.
+// What writes alone change and no counter sees.
 #[derive(Clone, Copy)]
-pub struct Rest {
+pub struct Settings {
     // registers 0x0630 to 0x0635, 0x0800, and 22 of each output's block
     pub masks: [u16; 6],
     pub timeout: u16,
     pub selections: [[u16; 22]; 6],
-    // beside the raw counts: each is stepped, reset and read by itself, and nothing takes both of one input
-    pub watchdogs: [Watchdog; 54],
+}
+
+impl Default for Settings {
+    ghost is_default = { λ s. s ≡ settings0 };
+
+    #[tactic(auto, unfolding(lists::specs::Table::tabulate, lists::specs::Table::table_from))]
+    fn default() -> Settings {
+        Settings {
+            masks: [0; 6],
+            timeout: 65535,
+            selections: [[0; 22]; 6],
+        }
+    }
+}
+
+// What ticks and tags alone change and no counter sees.
+#[derive(Clone, Copy)]
+pub struct Status {
     // registers 0x1300 to 0x136B: how often each input has risen since power-up, modulo 2^32
     pub rawcounts: [u32; 54],
     // the gate levels of the last tick
@@ -67,16 +89,12 @@ pub struct Rest {
     pub events: Events,
 }
 
-impl Default for Rest {
-    ghost is_default = { λ r. r ≡ rest0 };
+impl Default for Status {
+    ghost is_default = { λ s. s ≡ status0 };
 
     #[tactic(auto, unfolding(lists::specs::Table::tabulate, lists::specs::Table::table_from))]
-    fn default() -> Rest {
-        Rest {
-            masks: [0; 6],
-            timeout: 65535,
-            selections: [[0; 22]; 6],
-            watchdogs: [Watchdog::default(); 54],
+    fn default() -> Status {
+        Status {
             rawcounts: [0; 54],
             gatelevels: 0,
             events: Events::default(),

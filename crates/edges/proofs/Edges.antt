@@ -11,15 +11,19 @@ use Rattle.bools.specs.Pick.{pick}
 use Rattle.words.specs.Word.{bit_of}
 use Rattle.lists.specs.Checks.{Row, row}
 use Rattle.lists.specs.Table.{tabulate}
+use Rattle.device.specs.declared.map.GateWord.{GateWord}
+use Rattle.device.specs.declared.map.GateWord.TheVariants.{Mode, Timeout, Prepare, Recover}
+use Rattle.device.specs.declared.map.ReadoutWord.{ReadoutWord}
+use Rattle.device.specs.declared.map.ReadoutWord.TheVariants.{Module, Negative, Positive, GateErrors, WatchdogErrors, GateInputs, GateOutputs, Outputs}
+use Rattle.device.specs.declared.map.ReadoutWord.TheVariants.{GateStates, TagLow, TagHigh, Code, LoaderState, LoaderCounter, Count, Raw, Threshold}
 use Rattle.device.specs.declared.map.Register.{Register}
-use Rattle.device.specs.declared.map.Register.TheVariants.{Readout, Other, Control, Mode, Timeout, Key, Enable, Reload, Prepare, Recover, Input, Group, Word}
-use Rattle.device.specs.declared.map.Setting.{Setting}
-use Rattle.device.specs.declared.map.Setting.TheVariants.{Mask, WatchdogTimeout, WatchdogReset, Selection}
-use Rattle.device.specs.declared.map.Status.{Status}
-use Rattle.device.specs.declared.map.Status.TheVariants.{Module, Negative, Positive, GateErrors, WatchdogErrors, GateInputs, GateOutputs, Outputs}
-use Rattle.device.specs.declared.map.Status.TheVariants.{GateStates, TagLow, TagHigh, Code, LoaderState, LoaderCounter, Count, Raw, Threshold}
+use Rattle.device.specs.declared.map.Register.TheVariants.{Readout, Setting, Shared, Gates, Watchdogs, Input, Group, Word}
+use Rattle.device.specs.declared.map.SettingWord.{SettingWord}
+use Rattle.device.specs.declared.map.SettingWord.TheVariants.{Mask, WatchdogTimeout, Selection}
+use Rattle.device.specs.declared.map.SharedWord.{SharedWord}
+use Rattle.device.specs.declared.map.SharedWord.TheVariants.{Control, Key, Enable, Reload}
 use Rattle.device.specs.Map.{decode_of}
-use Rattle.device.specs.State.{machine, memory0, power_up, rest0, rest_of, with_rest}
+use Rattle.device.specs.State.{machine, memory0, power_up, status0, with_rawcounts, with_status}
 use Rattle.reading.specs.Read.{read_of, word_in, word_shown}
 use Rattle.registers.specs.Calls.{Call, tick, write, tag, download, after, from, machine0}
 use Rattle.registers.proofs.Cases.{reads, answers, often, pulses, counting, triggered}
@@ -178,10 +182,7 @@ raw_after n inputs a =
     word_shown
     (read_of
     (from
-    (machine
-    (with_rest power_up
-    (rest_of rest0.masks rest0.timeout rest0.selections rest0.watchdogs (tabulate 54 (λ i. n)) rest0.gatelevels rest0.events))
-    memory0)
+    (machine (with_status power_up (with_rawcounts status0 (tabulate 54 (λ i. n)))) memory0)
     (tick inputs 0 ∷ []))
     a)
 
@@ -245,42 +246,48 @@ abbrev pub in_block : ℕ → ℕ → ℕ → ℕ
 in_block first words k = pick (ltb k words) (first + k) 0
 
 -- the addresses by the Manual's tables, with its symbols; none is 0
-abbrev pub status_address : Status → ℕ
-status_address (Module k) = in_block 0x0638 6 k  -- IOBP_ID
-status_address (Negative k) = in_block 0x0700 8 k  -- NEG_OVERFLOW
-status_address (Positive k) = in_block 0x0708 8 k  -- POS_OVERFLOW
-status_address GateErrors = 0x0710  -- GATE_ERROR
-status_address (WatchdogErrors k) = in_block 0x0711 4 k  -- WD_ERROR
-status_address GateInputs = 0x0717  -- GATE_IN
-status_address GateOutputs = 0x0718  -- GATE_OUT
-status_address Outputs = 0x0719  -- OUT_SIGNAL
-status_address (GateStates k) = in_block 0x071A 3 k  -- GATE_STATE
-status_address TagLow = 0x0900  -- TAG_LOW
-status_address TagHigh = 0x0901  -- TAG_HIGH
-status_address Code = 0x0902  -- CODE
-status_address LoaderState = 0x0903  -- THR_LOADER_STATE
-status_address LoaderCounter = 0x0904  -- THR_LOADER_ITER
-status_address (Count k) = in_block 0x1200 256 k  -- CTR_READOUT
-status_address (Raw k) = in_block 0x1300 108 k  -- document 02, request 1
-status_address (Threshold k) = in_block 0x1800 512 k  -- THR
+abbrev pub readout_address : ReadoutWord → ℕ
+readout_address (Module k) = in_block 0x0638 6 k  -- IOBP_ID
+readout_address (Negative k) = in_block 0x0700 8 k  -- NEG_OVERFLOW
+readout_address (Positive k) = in_block 0x0708 8 k  -- POS_OVERFLOW
+readout_address GateErrors = 0x0710  -- GATE_ERROR
+readout_address (WatchdogErrors k) = in_block 0x0711 4 k  -- WD_ERROR
+readout_address GateInputs = 0x0717  -- GATE_IN
+readout_address GateOutputs = 0x0718  -- GATE_OUT
+readout_address Outputs = 0x0719  -- OUT_SIGNAL
+readout_address (GateStates k) = in_block 0x071A 3 k  -- GATE_STATE
+readout_address TagLow = 0x0900  -- TAG_LOW
+readout_address TagHigh = 0x0901  -- TAG_HIGH
+readout_address Code = 0x0902  -- CODE
+readout_address LoaderState = 0x0903  -- THR_LOADER_STATE
+readout_address LoaderCounter = 0x0904  -- THR_LOADER_ITER
+readout_address (Count k) = in_block 0x1200 256 k  -- CTR_READOUT
+readout_address (Raw k) = in_block 0x1300 108 k  -- document 02, request 1
+readout_address (Threshold k) = in_block 0x1800 512 k  -- THR
 
-abbrev pub setting_address : Setting → ℕ
+abbrev pub setting_address : SettingWord → ℕ
 setting_address (Mask k) = in_block 0x0630 6 k  -- IOBP_MASK
 setting_address WatchdogTimeout = 0x0800  -- WDOG_TIMEOUT
-setting_address (WatchdogReset k) = in_block 0x0810 4 k  -- WD_RESET
 setting_address (Selection o k) = pick (ltb o 6) (in_block (0x1100 + 32 * o) 22 k) 0  -- OUT_SEL
 
+abbrev pub shared_address : SharedWord → ℕ
+shared_address Control = 0x0801  -- COUNTERS
+shared_address Key = 0x0A00  -- KEY
+shared_address Enable = 0x0A01  -- CTRL
+shared_address Reload = 0x0A02  -- THR_RELOAD
+
+abbrev pub gate_address : GateWord → ℕ
+gate_address Mode = 0x0802  -- GATE_MODE
+gate_address (Timeout g) = in_block 0x0804 12 g  -- GATE_TIMEOUT
+gate_address Prepare = 0x0A03  -- GATE_PREP
+gate_address Recover = 0x0A04  -- GATE_RECOVER
+
 abbrev pub address_of : Register → ℕ
-address_of (Readout r) = status_address r
-address_of (Other r) = setting_address r
-address_of Control = 0x0801  -- COUNTERS
-address_of Mode = 0x0802  -- GATE_MODE
-address_of (Timeout g) = in_block 0x0804 12 g  -- GATE_TIMEOUT
-address_of Key = 0x0A00  -- KEY
-address_of Enable = 0x0A01  -- CTRL
-address_of Reload = 0x0A02  -- THR_RELOAD
-address_of Prepare = 0x0A03  -- GATE_PREP
-address_of Recover = 0x0A04  -- GATE_RECOVER
+address_of (Readout q) = readout_address q
+address_of (Setting q) = setting_address q
+address_of (Shared q) = shared_address q
+address_of (Gates q) = gate_address q
+address_of (Watchdogs k) = in_block 0x0810 4 k  -- WD_RESET
 address_of (Input n) = in_block 0x1000 128 n  -- IN_SEL
 address_of (Group k) = in_block 0x1600 32 k  -- CTR_GROUPS
 address_of (Word i) = in_block 0x8000 16_384 i  -- THR_RAM

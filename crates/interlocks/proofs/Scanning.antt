@@ -109,9 +109,9 @@ module _ (selections : List (List ℕ)) (present : ℕ → ℕ) where
       rw (none, meets_none (present k)) at (kept_next f (selected selections o k) (present k) k)))
 
 -- after all words of a crate
-pub ended_all : (s : Crate) → ended_after s.rest.selections (signals s) output_words ≡ tabulate output_count (ended_at s)
+pub ended_all : (s : Crate) → ended_after s.settings.selections (signals s) output_words ≡ tabulate output_count (ended_at s)
 unfolding trips trips_by words_read
-ended_all s = tabulate_ext output_count _ _ (λ o h. first_is output_words (finds s.rest.selections (signals s) o))
+ended_all s = tabulate_ext output_count _ _ (λ o h. first_is output_words (finds s.settings.selections (signals s) o))
 
 -- ---- the level and the words read, from what is kept at the end
 
@@ -119,7 +119,7 @@ ended_all s = tabulate_ext output_count _ _ (λ o h. first_is output_words (find
 pub words_all : (s : Crate) (o : ℕ) → trips s o output_words ≡ false → words_read s o ≡ output_words
 unfolding words_read trips trips_by
 words_all s o e =
-    least_is output_words (trips s o) output_words (omega arith) (λ i h. any_fewer output_words i (finds s.rest.selections (signals s) o) (omega arith) e) (λ h. absurd (lt_irrefl output_words h))
+    least_is output_words (trips s o) output_words (omega arith) (λ i h. any_fewer output_words i (finds s.settings.selections (signals s) o) (omega arith) e) (λ h. absurd (lt_irrefl output_words h))
 
 pub ended_level : (s : Crate) (o : ℕ) → is_none (ended_at s o) ≡ interlock s o
 ended_level s o =

@@ -54,7 +54,7 @@ fn ended(s: &Crate) -> [Option<u16>; 6]
 {
     let mut ended = [None; 6];
     for k in 0..22 {
-        let words = words_next(&ended, &s.rest.selections, k);
+        let words = words_next(&ended, &s.settings.selections, k);
         if words != [0; 6] {
             // a name of its own first: an array set from a call on itself has no proof rule
             let next = ended_next(&ended, &words, signals(s, k), k + 1);

@@ -3,14 +3,14 @@ ghost use Rattle.std.specs.Prelude.{◌≡◌};
 ghost use Rattle.interlocks.specs.Interlock.{low_gates, meets, signals};
 
 use counters::Counter;
-use device::{Crate, Rest};
+use device::Crate;
 use gates::Gate;
 
 // The gates whose input was low at the last accepted tick; all at power-up. By ^, as in `lines::rises`.
-fn low_gates(rest: &Rest) -> u16
-    ensures { result ≡ low_gates rest.now }
+fn low_gates(gatelevels: u16) -> u16
+    ensures { result ≡ low_gates gatelevels }
 {
-    0x0FFF ^ (0x0FFF & rest.gatelevels)
+    0x0FFF ^ (0x0FFF & gatelevels)
 }
 
 // The signals that selection word k of an output chooses from, in the order of the addresses.
@@ -22,8 +22,8 @@ pub fn signals(s: &Crate, k: u16) -> u16
         0x00..=0x07 => counters::overflow_word(&s.counters, k, Counter::is_under),
         0x08..=0x0F => counters::overflow_word(&s.counters, k - 0x08, Counter::is_over),
         0x10 => gates::gate_bits(&s.gates, Gate::failed),
-        0x11..=0x14 => watchdogs::error_word(&s.rest.watchdogs, k - 0x11),
-        _ => low_gates(&s.rest),
+        0x11..=0x14 => watchdogs::error_word(&s.watchdogs, k - 0x11),
+        _ => low_gates(s.status.gatelevels),
     }
 }
 

@@ -26,9 +26,9 @@ use Rattle.watchdogs.specs.Watchdog.{step_watchdogs}
 use Rattle.watchdogs.proofs.Leaps.{watchdogs_more, watchdogs_none}
 use Rattle.device.specs.declared.state.Crate.{Crate}
 use Rattle.device.specs.declared.state.Events.{Events}
-use Rattle.device.specs.State.{common_of, crate_of, rest_of}
-use Rattle.ticking.specs.Tick.{common_tick, handled_by, rest_tick, tick_of}
-use Rattle.leaps.specs.Leap.{Formed, leap_common, leap_of, leap_rest, quiet, stretch_of, ticks_of}
+use Rattle.device.specs.State.{common_of, crate_of, with_gatelevels}
+use Rattle.ticking.specs.Tick.{common_tick, handled_by, status_tick, tick_of}
+use Rattle.leaps.specs.Leap.{Formed, leap_common, leap_of, quiet, stretch_of, ticks_of}
 
 -- ---- what the test says
 
@@ -78,9 +78,9 @@ handled_stays l e idle = rw idle
 
 -- ---- the crate
 
-pub crate≡ : {s t : Crate} → s.counters ≡ t.counters → s.groups ≡ t.groups → s.gates ≡ t.gates → s.levels ≡ t.levels →
-    s.common ≡ t.common → s.rest ≡ t.rest → s ≡ t
-crate≡ a b c d e f = λ i. crate_of (a i) (b i) (c i) (d i) (e i) (f i)
+pub crate≡ : {s t : Crate} → s.counters ≡ t.counters → s.groups ≡ t.groups → s.gates ≡ t.gates → s.watchdogs ≡ t.watchdogs →
+    s.levels ≡ t.levels → s.common ≡ t.common → s.settings ≡ t.settings → s.status ≡ t.status → s ≡ t
+crate≡ a b c d e f g h = λ i. crate_of (a i) (b i) (c i) (d i) (e i) (f i) (g i) (h i)
 
 module _ (k : ℕ) (s : Crate) (memory : List ℕ) (inputs gatelevels : ℕ) (q : Quiet (suc k) s inputs gatelevels) (form : Formed s) where
   abbrev next : Crate
@@ -98,16 +98,18 @@ module _ (k : ℕ) (s : Crate) (memory : List ℕ) (inputs gatelevels : ℕ) (q 
   abbrev gates : List Gate
   gates = each_gate gate_step gatelevels s.gates
 
+  abbrev watched : List Watchdog
+  watched = step_watchdogs s.settings.timeout w s.watchdogs
+
   -- a quiet tick: no input rises, no output changes, nothing is loaded
-  quiet_tick : next ≡ crate_of counted s.groups gates inputs (common_tick s.common)
-      (rest_tick s.rest s.rest.rawcounts w gatelevels s.common.loader)
+  quiet_tick : next ≡ crate_of counted s.groups gates watched inputs (common_tick s.common) s.settings
+      (status_tick w gatelevels s.common.loader s.status)
   unfolding tick_of
   quiet_tick =
       rw (
         q.levels,
         outputs_stay k gatelevels s.gates q.gates,
         load_none s.common.loader s.common.queue q.idle q.empty,
-        raw_stays inputs s.common.phases s.rest.rawcounts form.rawcounts,
       )
 
   common_is : common_tick s.common ≡
@@ -118,43 +120,47 @@ module _ (k : ℕ) (s : Crate) (memory : List ℕ) (inputs gatelevels : ℕ) (q 
     loader_stays s.common.loader s.common.queue q.idle q.empty,
   )
 
-  rest_is : rest_tick s.rest s.rest.rawcounts w gatelevels s.common.loader ≡
-      rest_of s.rest.masks s.rest.timeout s.rest.selections (step_watchdogs s.rest.timeout w s.rest.watchdogs) s.rest.rawcounts gatelevels s.rest.events
-  unfolding rest_tick
-  rest_is = rw (handled_stays s.common.loader s.rest.events q.idle)
+  status_is : status_tick w gatelevels s.common.loader s.status ≡ with_gatelevels s.status gatelevels
+  unfolding status_tick
+  status_is = rw (raw_stays inputs s.common.phases s.status.rawcounts form.rawcounts, handled_stays s.common.loader s.status.events q.idle)
 
   abbrev stepped : Crate
   stepped =
-      crate_of counted s.groups gates inputs
+      crate_of counted s.groups gates watched inputs
       (common_of s.common.control s.common.key s.common.enable s.common.reload s.common.queue s.common.loader (step_phases s.common.phases))
-      (rest_of s.rest.masks s.rest.timeout s.rest.selections (step_watchdogs s.rest.timeout w s.rest.watchdogs) s.rest.rawcounts gatelevels s.rest.events)
+      s.settings
+      (with_gatelevels s.status gatelevels)
 
   tick_is : next ≡ stepped
-  tick_is = quiet_tick ∙ crate≡ refl refl refl refl common_is rest_is
+  tick_is = quiet_tick ∙ crate≡ refl refl refl refl refl common_is refl status_is
 
   more : (n : ℕ) → leap_of n next gatelevels ≡ leap_of (suc n) s gatelevels
-  unfolding leap_of leap_common leap_rest
+  unfolding leap_of leap_common
   more n =
       ap (λ (x : Crate). leap_of n x gatelevels) tick_is
       ∙ crate≡
       (rw (outputs_stay k gatelevels s.gates q.gates) (counters_more s.common.control w is s.counters _ _ (rises_next inputs s.common.phases n)))
       refl
       (gates_more k gatelevels s.gates q.gates n)
+      (watchdogs_more w (no_input inputs s.common.phases) s.settings.timeout s.watchdogs n)
       (sym q.levels)
       (ap (λ (x : List ℕ). common_of s.common.control s.common.key s.common.enable s.common.reload s.common.queue s.common.loader x) (phases_more n s.common.phases))
-      (ap (λ (x : List Watchdog). rest_of s.rest.masks s.rest.timeout s.rest.selections x s.rest.rawcounts gatelevels s.rest.events) (watchdogs_more w (no_input inputs s.common.phases) s.rest.timeout s.rest.watchdogs n))
+      refl
+      refl
 
   none : leap_of 0 next gatelevels ≡ next
-  unfolding leap_of leap_common leap_rest
+  unfolding leap_of leap_common
   none =
       ap (λ (x : Crate). leap_of 0 x gatelevels) tick_is
       ∙ crate≡
       (rw (outputs_stay k gatelevels s.gates q.gates) (counters_none s.common.control w is s.counters _ (rises_none (step_phases s.common.phases) (low_kept s.common.phases q.phases)) form.counters))
       refl
       (gates_none gatelevels s.gates)
+      (watchdogs_none w (no_input inputs s.common.phases) s.settings.timeout s.watchdogs)
       refl
       (ap (λ (x : List ℕ). common_of s.common.control s.common.key s.common.enable s.common.reload s.common.queue s.common.loader x) (phases_none s.common.phases q.phases))
-      (ap (λ (x : List Watchdog). rest_of s.rest.masks s.rest.timeout s.rest.selections x s.rest.rawcounts gatelevels s.rest.events) (watchdogs_none w (no_input inputs s.common.phases) s.rest.timeout s.rest.watchdogs))
+      refl
+      refl
       ∙ sym tick_is
 
   kept : Quiet k next inputs gatelevels

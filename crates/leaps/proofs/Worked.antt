@@ -27,7 +27,7 @@ use Rattle.reading.specs.Read.{read_of, word_shown}
 use Rattle.device.specs.State.{machine, memory0, power_up}
 use Rattle.registers.proofs.Cases.{asked, counting}
 use Rattle.registers.proofs.Computing as registers
-use Rattle.leaps.specs.Leap.{Formed, leap_common, leap_of, leap_rest, quiet, stretch_of, ticks_of}
+use Rattle.leaps.specs.Leap.{Formed, leap_common, leap_of, quiet, stretch_of, ticks_of}
 use Rattle.leaps.proofs.Theorems.{leap_is}
 
 abbrev zeros : List ℕ
@@ -174,7 +174,7 @@ leaps = signal_rows ++ count_rows ++ watchdog_rows ++ gate_rows ++ crate_rows
 
 leaps_right : right leaps ≡ true
 unfolding registers.computing leaps signal_rows count_rows watchdog_rows gate_rows crate_rows rises_in phase_after low_phases leap_phases counter_leap count_after counter_after
-    leap_counters watchdog_after leap_watchdogs steady steady_gates gate_after leap_gates horizon quiet stretch_of leap_of leap_common leap_rest
+    leap_counters watchdog_after leap_watchdogs steady steady_gates gate_after leap_gates horizon quiet stretch_of leap_of leap_common
 leaps_right = refl
 
 -- the worked cases

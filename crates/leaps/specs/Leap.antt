@@ -10,8 +10,7 @@ use Rattle.loader.specs.Loader.{busy, is_empty}
 use Rattle.watchdogs.specs.Leap.{leap_watchdogs}
 use Rattle.device.specs.declared.state.Common.{Common}
 use Rattle.device.specs.declared.state.Crate.{Crate}
-use Rattle.device.specs.declared.state.Rest.{Rest}
-use Rattle.device.specs.State.{common_of, crate_of, rest_of}
+use Rattle.device.specs.State.{common_of, crate_of, with_gatelevels}
 use Rattle.ticking.specs.Tick.{tick_of}
 
 -- so many ticks at the same levels, one by one
@@ -26,16 +25,13 @@ unfoldable pub leap_common : ℕ → Common → Common
 leap_common k cm =
     common_of cm.control cm.key cm.enable cm.reload cm.queue cm.loader (leap_phases k cm.phases)
 
--- watchdogs move; no input rises, so raw counts stay
-unfoldable pub leap_rest : ℕ → ℕ → Rest → Rest
-leap_rest k gatelevels r =
-    rest_of r.masks r.timeout r.selections (leap_watchdogs k r.timeout r.watchdogs) r.rawcounts gatelevels r.events
-
+-- of the status the gate levels alone are set: no input rises, so raw counts stay
 unfoldable pub leap_of : ℕ → Crate → ℕ → Crate
 leap_of k s gatelevels =
     crate_of
     (leap_counters s.common.control (rises_in k s.common.phases) (outputs_of s.gates) s.counters)
-    s.groups (leap_gates k s.gates) s.levels (leap_common k s.common) (leap_rest k gatelevels s.rest)
+    s.groups (leap_gates k s.gates) (leap_watchdogs k s.settings.timeout s.watchdogs) s.levels (leap_common k s.common) s.settings
+    (with_gatelevels s.status gatelevels)
 
 -- ---- when that is so
 
@@ -53,4 +49,4 @@ stretch_of s left inputs gatelevels =
 -- what the types of the code say of a crate: counts of 32 bits, and as many raw counts as inputs
 pub record Formed (s : Crate) : Type 0 where
   pub counters : Ranged s.counters 128
-  pub rawcounts : length s.rest.rawcounts ≡ 54
+  pub rawcounts : length s.status.rawcounts ≡ 54

@@ -1,11 +1,12 @@
 // A stretch of ticks at once.
 ghost use Rattle.std.specs.Prelude.{◌≡◌, ◌<◌, IfSome, min, length};
 ghost use Rattle.std.specs.Option.{unwrap_or};
-ghost use Rattle.leaps.specs.Leap.{Formed, leap_common, leap_of, leap_rest, stretch_of};
+ghost use Rattle.device.specs.State.{with_gatelevels};
+ghost use Rattle.leaps.specs.Leap.{Formed, leap_common, leap_of, stretch_of};
 ghost use Rattle.leaps.specs.Leap.{quiet as leap_quiet};
 
 use counters::Stretch;
-use device::{Common, Crate, Rest};
+use device::{Common, Crate, Status};
 use lines::Levels;
 
 // The phases move; queue and loader stay.
@@ -16,13 +17,11 @@ fn leap_common(cm: &mut Common, k: u32)
     lines::leap_phases(&mut cm.phases, k);
 }
 
-// The watchdogs move, and the gate levels are the tick's. There are as many raw counts as inputs.
-#[tactic(auto, unfolding(crate::specs::Leap::leap_rest))]
-fn leap_rest(rest: &mut Rest, k: u32, gatelevels: u16)
-    ensures { (rest.new ≡ leap_rest k gatelevels rest.old) × (length rest.old.rawcounts ≡ 54) }
+// The gate levels are the tick's. There are as many raw counts as inputs.
+fn leap_status(status: &mut Status, gatelevels: u16)
+    ensures { (status.new ≡ with_gatelevels status.old gatelevels) × (length status.old.rawcounts ≡ 54) }
 {
-    watchdogs::leap_watchdogs(&mut rest.watchdogs, k, rest.timeout);
-    rest.gatelevels = gatelevels;
+    status.gatelevels = gatelevels;
 }
 
 // k ticks at once. Of a quiet crate they are k ticks one by one.
@@ -37,7 +36,8 @@ pub fn leap(s: &mut Crate, k: u32, gatelevels: u16)
     counters::leap_counters(&mut s.counters, &stretch);
     gate_leaps::leap_gates(&mut s.gates, k);
     leap_common(&mut s.common, k);
-    leap_rest(&mut s.rest, k, gatelevels);
+    watchdogs::leap_watchdogs(&mut s.watchdogs, k, s.settings.timeout);
+    leap_status(&mut s.status, gatelevels);
 }
 
 // Whether k ticks at these levels leave all but test signals, counts, watchdogs and timers as they are.

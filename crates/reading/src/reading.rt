@@ -2,11 +2,11 @@
 ghost use Rattle.std.specs.Prelude.{◌≡◌, true, false, get_or};
 ghost use Rattle.bools.specs.Pick.{pick};
 ghost use Rattle.loader.specs.Loader.{busy};
-ghost use Rattle.reading.specs.Read.{module_id, module_word, low_first, half_of, threshold_of, status_word, setting_word, word_in};
+ghost use Rattle.reading.specs.Read.{module_id, module_word, low_first, half_of, threshold_of, readout_word, setting_word, shared_word, gate_word, word_in};
 ghost use Rattle.device.specs.State.{machine};
 
 use counters::Counter;
-use device::{Crate, Register, Setting, Status};
+use device::{Common, Crate, GateWord, ReadoutWord, Register, SettingWord, Settings, SharedWord};
 use gates::Gate;
 use loader::Reload;
 
@@ -65,64 +65,84 @@ fn loader_state(loader: Option<Reload>) -> u16
 }
 
 // The word of a read-only register; past the inputs a raw count is 0.
-#[tactic(auto, unfolding(crate::specs::Read::status_word, counters::specs::Counter::counter_at, gates::specs::Gate::outputs_of))]
-fn status_word(s: &Crate, r: Status) -> u16
-    ensures { result ≡ status_word s.now r }
+#[tactic(auto, unfolding(crate::specs::Read::readout_word, counters::specs::Counter::counter_at, gates::specs::Gate::outputs_of))]
+fn readout_word(s: &Crate, q: ReadoutWord) -> u16
+    ensures { result ≡ readout_word s.now q }
 {
-    let events = s.rest.events;
-    match r {
-        Status::Module(k) => module_word(k),
-        Status::Negative(k) => counters::overflow_word(&s.counters, k, Counter::is_under),
-        Status::Positive(k) => counters::overflow_word(&s.counters, k, Counter::is_over),
-        Status::GateErrors => gates::gate_bits(&s.gates, Gate::failed),
-        Status::WatchdogErrors(k) => watchdogs::error_word(&s.rest.watchdogs, k),
-        Status::GateInputs => s.rest.gatelevels,
-        Status::GateOutputs => gates::gate_bits(&s.gates, |g| g.output),
-        Status::Outputs => interlocks::outputs(s),
-        Status::GateStates(k) => gates::state_word(&s.gates, k),
-        Status::TagLow => events.low,
-        Status::TagHigh => events.high,
-        Status::Code => events.code,
-        Status::LoaderState => loader_state(s.common.loader),
-        Status::LoaderCounter => events.handled,
-        Status::Count(k) => half(k, at(&s.counters, k / 2).count),
-        Status::Raw(k) => low_first(k, at(&s.rest.rawcounts, k / 2)),
-        Status::Threshold(k) => half(k, threshold(k % 4, at(&s.counters, k / 4))),
+    let events = s.status.events;
+    match q {
+        ReadoutWord::Module(k) => module_word(k),
+        ReadoutWord::Negative(k) => counters::overflow_word(&s.counters, k, Counter::is_under),
+        ReadoutWord::Positive(k) => counters::overflow_word(&s.counters, k, Counter::is_over),
+        ReadoutWord::GateErrors => gates::gate_bits(&s.gates, Gate::failed),
+        ReadoutWord::WatchdogErrors(k) => watchdogs::error_word(&s.watchdogs, k),
+        ReadoutWord::GateInputs => s.status.gatelevels,
+        ReadoutWord::GateOutputs => gates::gate_bits(&s.gates, |g| g.output),
+        ReadoutWord::Outputs => interlocks::outputs(s),
+        ReadoutWord::GateStates(k) => gates::state_word(&s.gates, k),
+        ReadoutWord::TagLow => events.low,
+        ReadoutWord::TagHigh => events.high,
+        ReadoutWord::Code => events.code,
+        ReadoutWord::LoaderState => loader_state(s.common.loader),
+        ReadoutWord::LoaderCounter => events.handled,
+        ReadoutWord::Count(k) => half(k, at(&s.counters, k / 2).count),
+        ReadoutWord::Raw(k) => low_first(k, at(&s.status.rawcounts, k / 2)),
+        ReadoutWord::Threshold(k) => half(k, threshold(k % 4, at(&s.counters, k / 4))),
     }
 }
 
 // The word of a setting.
 #[tactic(auto, unfolding(crate::specs::Read::setting_word))]
-fn setting_word(s: &Crate, r: Setting) -> u16
-    ensures { result ≡ setting_word s.now r }
+fn setting_word(s: &Settings, q: SettingWord) -> u16
+    ensures { result ≡ setting_word s.now q }
 {
-    match r {
-        Setting::Mask(k) => at(&s.rest.masks, k),
-        Setting::WatchdogTimeout => s.rest.timeout,
-        Setting::WatchdogReset(k) => watchdogs::reset_word(&s.rest.watchdogs, k),
-        Setting::Selection { output, place } => {
-            let block = s.rest.selections.get(usize::from(output));
+    match q {
+        SettingWord::Mask(k) => at(&s.masks, k),
+        SettingWord::WatchdogTimeout => s.timeout,
+        SettingWord::Selection { output, place } => {
+            let block = s.selections.get(usize::from(output));
             block.map_or(0, |words| at(words, place))
         }
     }
 }
 
+// The word of a register that all counters share.
+#[tactic(auto, unfolding(crate::specs::Read::shared_word))]
+fn shared_word(cm: &Common, q: SharedWord) -> u16
+    ensures { result ≡ shared_word cm.now q }
+{
+    match q {
+        SharedWord::Control => cm.control,
+        SharedWord::Key => cm.key,
+        SharedWord::Enable => cm.enable,
+        SharedWord::Reload => cm.reload,
+    }
+}
+
+// The word of a register of the gates.
+#[tactic(auto, unfolding(crate::specs::Read::gate_word, gates::specs::Gate::gate_at))]
+fn gate_word(gates: &[Gate; 12], q: GateWord) -> u16
+    ensures { result ≡ gate_word gates.now q }
+{
+    match q {
+        GateWord::Mode => gates::gate_bits(gates, |g| g.mode),
+        GateWord::Timeout(g) => at(gates, g).timeout,
+        GateWord::Prepare => gates::gate_bits(gates, |g| g.prepare),
+        GateWord::Recover => gates::gate_bits(gates, |g| g.recover),
+    }
+}
+
 // The word of a register.
-#[tactic(auto, unfolding(crate::specs::Read::word_in, counters::specs::Counter::counter_at, gates::specs::Gate::gate_at, loader::specs::Memory::word_at))]
+#[tactic(auto, unfolding(crate::specs::Read::word_in, counters::specs::Counter::counter_at, loader::specs::Memory::word_at))]
 pub fn word_in(s: &Crate, mem: &[u16; 16384], r: Register) -> u16
     ensures { result ≡ word_in (machine s.now mem.now) r }
 {
     match r {
-        Register::Readout(status) => status_word(s, status),
-        Register::Other(setting) => setting_word(s, setting),
-        Register::Control => s.common.control,
-        Register::Mode => gates::gate_bits(&s.gates, |g| g.mode),
-        Register::Timeout(g) => at(&s.gates, g).timeout,
-        Register::Key => s.common.key,
-        Register::Enable => s.common.enable,
-        Register::Reload => s.common.reload,
-        Register::Prepare => gates::gate_bits(&s.gates, |g| g.prepare),
-        Register::Recover => gates::gate_bits(&s.gates, |g| g.recover),
+        Register::Readout(q) => readout_word(s, q),
+        Register::Setting(q) => setting_word(&s.settings, q),
+        Register::Shared(q) => shared_word(&s.common, q),
+        Register::Gates(q) => gate_word(&s.gates, q),
+        Register::Watchdogs(k) => watchdogs::reset_word(&s.watchdogs, k),
         Register::Input(n) => at(&s.counters, n).input,
         Register::Group(k) => at(&s.groups, k),
         Register::Word(i) => at(mem, i),

@@ -15,18 +15,18 @@ use Rattle.registers.specs.Calls.{download_answer, call_answer, called, answer, 
 use Rattle.interlocks.specs.Interlock.{signals, trips_by, trips, interlocks}
 use Rattle.interlocks.specs.Scan.{words_read, scan_of}
 use Rattle.device.specs.Map.{backplane_map, status_map, control_map, event_map, counter_map, decode_of, kept}
-use Rattle.reading.specs.Read.{module_word, status_word, setting_word, word_in, read_of}
+use Rattle.reading.specs.Read.{module_word, readout_word, setting_word, shared_word, gate_word, word_in, read_of}
 use Rattle.device.specs.State.{power_up, memory0}
 use Rattle.tagging.specs.Tag.{tag_request, commanded, tag_of, tag_answer}
-use Rattle.ticking.specs.Tick.{common_tick, rest_tick, tick_of}
-use Rattle.writing.specs.Write.{request_answer, requested, reload_answer, reload_write, control_write, key_write, enable_write, rest_write, write_answer, reset_by, write_at}
+use Rattle.ticking.specs.Tick.{common_tick, status_tick, tick_of}
+use Rattle.writing.specs.Write.{request_answer, requested, reload_answer, reload_write, control_write, key_write, enable_write, settings_write, shared_write, gates_write, write_answer, reset_by, write_at}
 
 unfoldable pub computing : List Row → Bool
 unfolding bit nibble fields fields_from pack masked_bits table_from tabulate each any least counter_step counter_tick tick_counters
     clear_counters counter_at overflow_word gate_step each_gate
     gate_at gate_bits outputs_of step_phases rise_of rises_of count_rises pushed oldest dropped loader_step queue_step group_at load_into word_at loaded
     replaced watchdog_step step_watchdogs with_reset reset_in reset_watchdogs watchdog_at watchdog_word download_answer call_answer called answer step
-    powered powered_memory from after signals trips_by trips interlocks words_read scan_of backplane_map status_map control_map event_map counter_map decode_of kept module_word state_word status_word setting_word word_in
-    read_of power_up memory0 tag_request commanded tag_of tag_answer bad_levels common_tick rest_tick tick_of request_answer requested reload_answer
-    reload_write control_write key_write enable_write rest_write write_answer reset_by write_at
+    powered powered_memory from after signals trips_by trips interlocks words_read scan_of backplane_map status_map control_map event_map counter_map decode_of kept module_word state_word readout_word setting_word shared_word gate_word word_in
+    read_of power_up memory0 tag_request commanded tag_of tag_answer bad_levels common_tick status_tick tick_of request_answer requested reload_answer
+    reload_write control_write key_write enable_write settings_write shared_write gates_write write_answer reset_by write_at
 computing rows = right rows

@@ -13,9 +13,9 @@ use Rattle.counters.specs.declared.counter.Counter.{Counter}
 use Rattle.counters.specs.Counter.{counter_at, is_over, is_under, overflow_word}
 use Rattle.loader.specs.Memory.{memory_words}
 use Rattle.device.specs.declared.map.Register.TheVariants.{Readout}
-use Rattle.device.specs.declared.map.Status.TheVariants.{Negative, Positive}
+use Rattle.device.specs.declared.map.ReadoutWord.TheVariants.{Negative, Positive}
 use Rattle.device.specs.Map.{decode_of, status_map}
-use Rattle.reading.specs.Read.{read_of, status_word, word_in, word_shown}
+use Rattle.reading.specs.Read.{read_of, readout_word, word_in, word_shown}
 use Rattle.device.specs.State.{Machine}
 
 decode_negative : (k : ℕ) → k < 8 → decode_of (0x0700 + k) ≡ Some (Readout (Negative k))
@@ -38,11 +38,11 @@ decode_positive k h =
 
 module _ (m : Machine) (whole : length m.memory ≡ memory_words) where
   read_negative : (k : ℕ) → k < 8 → read_of m (0x0700 + k) ≡ Ok (overflow_word is_under m.state.counters k)
-  unfolding read_of word_in status_word
+  unfolding read_of word_in readout_word
   read_negative k h = rw (eq-eqb (length m.memory) memory_words whole, decode_negative k h)
 
   read_positive : (k : ℕ) → k < 8 → read_of m (0x0708 + k) ≡ Ok (overflow_word is_over m.state.counters k)
-  unfolding read_of word_in status_word
+  unfolding read_of word_in readout_word
   read_positive k h = rw (eq-eqb (length m.memory) memory_words whole, decode_positive k h)
 
   overflow_bit : (test : Counter → Bool) (c : ℕ) → bit (overflow_word test m.state.counters (c / 16)) (c % 16) ≡ test (counter_at m.state.counters c)

@@ -1,6 +1,7 @@
 -- A refused call leaves what the table of 01 says, for every machine and every call.
 use Prim.Native.Nat.{ℕ}
 use mathlib.Core.Bool.{true, false, true≢false}
+use mathlib.Core.List.{List}
 use mathlib.Core.Path.{◌≡◌, refl, ap}
 use lib.Dec.{eqb}
 use Rattle.std.proofs.Common.{Err, Option, Some, None}
@@ -8,7 +9,11 @@ use Rattle.std.specs.Option.{option_map_or}
 use Rattle.bools.proofs.Tests.{cases}
 use Rattle.causes.specs.declared.Cause.TheVariants.{Address}
 use Rattle.device.specs.declared.map.Register.{Register}
-use Rattle.device.specs.declared.map.Register.TheVariants.{Readout, Other, Control, Mode, Timeout, Key, Enable, Reload, Prepare, Recover, Input, Group, Word}
+use Rattle.device.specs.declared.map.Register.TheVariants.{Readout, Setting, Shared, Gates, Watchdogs, Input, Group, Word}
+use Rattle.device.specs.declared.map.SharedWord.{SharedWord}
+use Rattle.device.specs.declared.map.SharedWord.TheVariants.{Control, Key, Enable, Reload}
+use Rattle.counters.specs.declared.counter.Counter.{Counter}
+use Rattle.device.specs.declared.state.Common.{Common}
 use Rattle.causes.specs.Causes.{is_done}
 use Rattle.loader.specs.Memory.{is_whole}
 use Rattle.registers.specs.Calls.{Call, tick, write, tag, download, answer, call_answer, called, left_by_refusal, step}
@@ -16,20 +21,24 @@ use Rattle.device.specs.Map.{decode_of}
 use Rattle.device.specs.State.{Machine, with_state}
 use Rattle.tagging.specs.Tag.{command_of, commanded, events_on, noted_in, right_key, tag_answer, tag_of, tag_request}
 use Rattle.lines.specs.Lines.{bad_levels}
-use Rattle.writing.specs.Write.{reload_write, write_answer, write_at}
+use Rattle.writing.specs.Write.{reload_write, shared_answer, shared_clears, shared_write, write_answer, write_at}
+
+-- of the registers that all counters share, 0x0A02 alone refuses
+refused_shared : (q : SharedWord) (w : ℕ) (cm : Common) → is_done (shared_answer q w cm) ≡ false →
+    (shared_write q w cm ≡ cm) × ((counters : List Counter) → shared_clears q w counters ≡ counters)
+unfolding shared_write reload_write
+refused_shared Reload w cm e = (rw e refl, λ counters. refl)
+refused_shared Control w cm e = absurd (true≢false e)
+refused_shared Key w cm e = absurd (true≢false e)
+refused_shared Enable w cm e = absurd (true≢false e)
 
 refused_write : (m : Machine) (r : Register) (w : ℕ) → is_done (write_answer m.state.common r w) ≡ false → write_at m r w ≡ m
-unfolding write_answer write_at reload_write
+unfolding write_answer write_at
 refused_write m (Readout r) w e = refl
-refused_write m (Other r) w e = absurd (true≢false e)
-refused_write m Control w e = absurd (true≢false e)
-refused_write m Mode w e = absurd (true≢false e)
-refused_write m (Timeout g) w e = absurd (true≢false e)
-refused_write m Key w e = absurd (true≢false e)
-refused_write m Enable w e = absurd (true≢false e)
-refused_write m Reload w e = rw e
-refused_write m Prepare w e = absurd (true≢false e)
-refused_write m Recover w e = absurd (true≢false e)
+refused_write m (Shared q) w e = let s = refused_shared q w m.state.common e in rw (s.0, s.1 m.state.counters) refl
+refused_write m (Setting q) w e = absurd (true≢false e)
+refused_write m (Gates q) w e = absurd (true≢false e)
+refused_write m (Watchdogs k) w e = absurd (true≢false e)
 refused_write m (Input n) w e = absurd (true≢false e)
 refused_write m (Group k) w e = absurd (true≢false e)
 refused_write m (Word i) w e = absurd (true≢false e)

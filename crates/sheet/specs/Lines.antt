@@ -6,8 +6,8 @@ use Rattle.bools.specs.Pick.{pick}
 use Rattle.counters.specs.Counter.{down_of, gate_of, up_of}
 use Rattle.lines.specs.Lines.{gate_count, input_count}
 use Rattle.device.specs.declared.map.Register.{Register}
-use Rattle.device.specs.declared.map.Register.TheVariants.{Readout, Other, Control, Mode, Timeout, Key, Enable, Reload, Prepare, Recover, Input, Group, Word}
-use Rattle.registers.specs.Calls.{Call, tick, write, tag, download}
+use Rattle.device.specs.declared.map.Register.TheVariants.{Input}
+use Rattle.registers.specs.Calls.{Call, write}
 use Rattle.device.specs.Map.{decode_of}
 
 pub record Lines : Type 0 where
@@ -31,24 +31,11 @@ join a b = record { inputs = λ i. a.inputs i || b.inputs i; gates = λ g. a.gat
 -- a write to c's input register has the lines of its word, any other call has none
 unfoldable pub lines_at : ℕ → Register → ℕ → Lines
 lines_at c (Input n) w = pick (eqb c n) (lines_of w) no_lines
-lines_at c (Readout r) w = no_lines
-lines_at c (Other r) w = no_lines
-lines_at c Control w = no_lines
-lines_at c Mode w = no_lines
-lines_at c (Timeout g) w = no_lines
-lines_at c Key w = no_lines
-lines_at c Enable w = no_lines
-lines_at c Reload w = no_lines
-lines_at c Prepare w = no_lines
-lines_at c Recover w = no_lines
-lines_at c (Group k) w = no_lines
-lines_at c (Word i) w = no_lines
+lines_at c r w = no_lines
 
 unfoldable pub lines_in : ℕ → Call → Lines
 lines_in c (write a w) = option_map_or (λ (r : Register). lines_at c r w) (decode_of a) no_lines
-lines_in c (tick inputs gates) = no_lines
-lines_in c (tag t) = no_lines
-lines_in c (download d words) = no_lines
+lines_in c x = no_lines
 
 -- "of at least one word that the list writes to its input register"
 unfoldable pub own_lines : ℕ → List Call → Lines

@@ -7,8 +7,12 @@ use Rattle.words.specs.Word.{masked_bits, nibble}
 use Rattle.lists.specs.Table.{tabulate}
 use Rattle.lines.specs.Lines.{bad_levels, gate_count, input_count}
 use Rattle.loader.specs.Memory.{dataset_words}
+use Rattle.device.specs.declared.map.GateWord.{GateWord}
+use Rattle.device.specs.declared.map.GateWord.TheVariants.{Mode, Timeout, Prepare, Recover}
 use Rattle.device.specs.declared.map.Register.{Register}
-use Rattle.device.specs.declared.map.Register.TheVariants.{Readout, Other, Control, Mode, Timeout, Key, Enable, Reload, Prepare, Recover, Input, Group, Word}
+use Rattle.device.specs.declared.map.Register.TheVariants.{Shared, Gates, Input, Group, Word}
+use Rattle.device.specs.declared.map.SharedWord.{SharedWord}
+use Rattle.device.specs.declared.map.SharedWord.TheVariants.{Control, Key, Enable, Reload}
 use Rattle.registers.specs.Calls.{Call, tick, write, tag, download}
 use Rattle.device.specs.Map.{decode_of}
 use Rattle.tagging.specs.Tag.{command_of}
@@ -43,21 +47,28 @@ is_own_word c i = eqb (i % dataset_words / 4) c
 abbrev pub own_word : ℕ → ℕ
 own_word i = 4 * (i / dataset_words) + i % 4
 
+-- 0x0801, 0x0A00, 0x0A01, 0x0A02
+abbrev pub own_shared : SharedWord → ℕ → Option Part
+own_shared Control w = Some (controlled w)
+own_shared Key w = Some (keyed w)
+own_shared Enable w = Some (enabled w)
+own_shared Reload w = Some (reloaded w)
+
+-- "own gates' bits in 0x0802, 0x0A03, 0x0A04", and an own gate's timeout
+abbrev pub own_gates : Lines → GateWord → ℕ → Option Part
+own_gates S Mode w = Some (moded (masked_bits gate_count S.gates w))
+own_gates S (Timeout g) w = pick (S.gates g) (Some (timed g w)) None
+own_gates S Prepare w = Some (prepared (masked_bits gate_count S.gates w))
+own_gates S Recover w = Some (recovered (masked_bits gate_count S.gates w))
+
 -- "a write elsewhere drops out"
 unfoldable pub own_at : Lines → ℕ → Register → ℕ → Option Part
-own_at S c (Readout r) w = None
-own_at S c (Other r) w = None
-own_at S c Control w = Some (controlled w)
-own_at S c Mode w = Some (moded (masked_bits gate_count S.gates w))
-own_at S c (Timeout g) w = pick (S.gates g) (Some (timed g w)) None
-own_at S c Key w = Some (keyed w)
-own_at S c Enable w = Some (enabled w)
-own_at S c Reload w = Some (reloaded w)
-own_at S c Prepare w = Some (prepared (masked_bits gate_count S.gates w))
-own_at S c Recover w = Some (recovered (masked_bits gate_count S.gates w))
+own_at S c (Shared q) w = own_shared q w
+own_at S c (Gates q) w = own_gates S q w
 own_at S c (Input n) w = pick (eqb c n) (Some (patched w)) None
 own_at S c (Group k) w = pick (eqb (c / 4) k) (Some (grouped (nibble w (c % 4)))) None
 own_at S c (Word i) w = pick (is_own_word c i) (Some (stored (own_word i) w)) None
+own_at S c r w = None
 
 -- "of a tag, all but the bits of other gates in commands 0x2 and 0x3"
 unfoldable pub own_tag : Lines → ℕ → ℕ

@@ -12,11 +12,13 @@ use Rattle.lines.specs.Raw.{raw_at}
 use Rattle.loader.specs.Loader.{Queue, request0}
 use Rattle.loader.specs.Memory.{memory_words, word_at}
 use Rattle.watchdogs.specs.Watchdog.{watchdog_at, watchdog_top}
-use Rattle.device.specs.declared.map.Register.TheVariants.{Control, Enable, Key, Other, Reload}
-use Rattle.device.specs.declared.map.Setting.TheVariants.{Mask, Selection, WatchdogTimeout}
+use Rattle.device.specs.declared.map.Register.TheVariants.{Setting, Shared}
+use Rattle.device.specs.declared.map.SettingWord.TheVariants.{Mask, Selection, WatchdogTimeout}
+use Rattle.device.specs.declared.map.SharedWord.TheVariants.{Control, Enable, Key, Reload}
 use Rattle.device.specs.declared.state.Common.{Common}
 use Rattle.device.specs.declared.state.Events.{Events}
-use Rattle.device.specs.declared.state.Rest.{Rest}
+use Rattle.device.specs.declared.state.Settings.{Settings}
+use Rattle.device.specs.declared.state.Status.{Status}
 use Rattle.registers.specs.Calls.{Call, tick, write, tag, download}
 use Rattle.device.specs.Map.{used_bits}
 use Rattle.interlocks.specs.Interlock.{selected}
@@ -54,10 +56,10 @@ LoaderInRange None = Unit
 LoaderInRange (Some l) = ReloadingInRange l
 
 pub record CommonInRange (cm : Common) : Type 0 where
-  pub control : cm.control < 2 ^ used_bits Control
-  pub key : cm.key < 2 ^ used_bits Key
-  pub enable : cm.enable < 2 ^ used_bits Enable
-  pub reload : cm.reload < 2 ^ used_bits Reload
+  pub control : cm.control < 2 ^ used_bits (Shared Control)
+  pub key : cm.key < 2 ^ used_bits (Shared Key)
+  pub enable : cm.enable < 2 ^ used_bits (Shared Enable)
+  pub reload : cm.reload < 2 ^ used_bits (Shared Reload)
   pub queue : QueueInRange cm.queue
   pub loader : LoaderInRange cm.loader
   pub phases : (k : ℕ) → get_or cm.phases k 0 < phase_limit
@@ -68,14 +70,15 @@ pub record EventsInRange (e : Events) : Type 0 where
   pub code : e.code < 2 ^ 16
   pub handled : e.handled < 128
 
-pub record RestInRange (r : Rest) : Type 0 where
-  pub masks : (k : ℕ) → get_or r.masks k 0 < 2 ^ used_bits (Other (Mask k))
-  pub timeout : r.timeout < 2 ^ used_bits (Other WatchdogTimeout)
-  pub selections : (o k : ℕ) → selected r.selections o k < 2 ^ used_bits (Other (Selection o k))
-  pub watchdogs : (i : ℕ) → (watchdog_at r.watchdogs i).value ≤ watchdog_top
-  pub rawcounts : (i : ℕ) → raw_at r.rawcounts i < 2 ^ 32
-  pub gatelevels : r.gatelevels < 2 ^ gate_count
-  pub events : EventsInRange r.events
+pub record SettingsInRange (s : Settings) : Type 0 where
+  pub masks : (k : ℕ) → get_or s.masks k 0 < 2 ^ used_bits (Setting (Mask k))
+  pub timeout : s.timeout < 2 ^ used_bits (Setting WatchdogTimeout)
+  pub selections : (o k : ℕ) → selected s.selections o k < 2 ^ used_bits (Setting (Selection o k))
+
+pub record StatusInRange (s : Status) : Type 0 where
+  pub rawcounts : (i : ℕ) → raw_at s.rawcounts i < 2 ^ 32
+  pub gatelevels : s.gatelevels < 2 ^ gate_count
+  pub events : EventsInRange s.events
 
 pub record Reached (m : Machine) : Type 0 where
   pub memory : length m.memory ≡ memory_words
@@ -83,9 +86,11 @@ pub record Reached (m : Machine) : Type 0 where
   pub counters : (n : ℕ) → CounterInRange (counter_at m.state.counters n)
   pub groups : (k : ℕ) → get_or m.state.groups k 0 < 2 ^ 16
   pub gates : (g : ℕ) → GateInRange (gate_at m.state.gates g)
+  pub watchdogs : (i : ℕ) → (watchdog_at m.state.watchdogs i).value ≤ watchdog_top
   pub levels : m.state.levels < 2 ^ input_count
   pub common : CommonInRange m.state.common
-  pub rest : RestInRange m.state.rest
+  pub settings : SettingsInRange m.state.settings
+  pub status : StatusInRange m.state.status
   -- "While RESET (bit 0) is set all counts are 0."
   pub reset : reset_on m.state.common.control ≡ true → (n : ℕ) → (counter_at m.state.counters n).count ≡ pos 0
 

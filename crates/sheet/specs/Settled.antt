@@ -10,7 +10,9 @@ use Rattle.gates.specs.declared.gate.Gate.{Gate}
 use Rattle.gates.specs.Gate.{gate_at, gate_bits, mode, prepare, recover}
 use Rattle.lines.specs.Lines.{gate_count}
 use Rattle.loader.specs.Loader.{is_beyond}
-use Rattle.device.specs.declared.map.Register.TheVariants.{Control, Enable, Input, Key, Timeout, Word}
+use Rattle.device.specs.declared.map.GateWord.TheVariants.{Timeout}
+use Rattle.device.specs.declared.map.Register.TheVariants.{Gates, Input, Shared, Word}
+use Rattle.device.specs.declared.map.SharedWord.TheVariants.{Control, Enable, Key}
 use Rattle.causes.specs.Causes.{is_done}
 use Rattle.device.specs.Map.{kept}
 use Rattle.registers.specs.Calls.{Call, download_answer}
@@ -62,11 +64,11 @@ unfoldable pub repeats : ℕ → Sheet → Part → Bool
 repeats c s (ticked refused inputs gates) = refused
 repeats c s (patched w) = eqb (kept (Input c) w) s.counter.input
 repeats c s (stored k w) = eqb (kept (Word k) w) (get_or s.memory k 0)
-repeats c s (controlled w) = eqb (kept Control w) s.common.control
-repeats c s (keyed w) = eqb (kept Key w) s.common.key
-repeats c s (enabled w) = eqb (kept Enable w) s.common.enable
+repeats c s (controlled w) = eqb (kept (Shared Control) w) s.common.control
+repeats c s (keyed w) = eqb (kept (Shared Key) w) s.common.key
+repeats c s (enabled w) = eqb (kept (Shared Enable) w) s.common.enable
 repeats c s (reloaded w) = false
-repeats c s (timed g w) = eqb (kept (Timeout g) w) (gate_at s.gates g).timeout
+repeats c s (timed g w) = eqb (kept (Gates (Timeout g)) w) (gate_at s.gates g).timeout
 repeats c s (grouped n) = eqb n s.group
 repeats c s (moded w) = eqb w (gate_bits mode s.gates)
 repeats c s (prepared w) = eqb w (gate_bits prepare s.gates)

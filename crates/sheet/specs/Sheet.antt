@@ -12,7 +12,8 @@ use Rattle.gates.specs.Gate.{with_mode, with_prepare, with_prepare_pulse, with_r
 use Rattle.lines.specs.Lines.{gate_count, rises_of}
 use Rattle.loader.specs.Loader.{takes}
 use Rattle.loader.specs.Memory.{loaded}
-use Rattle.device.specs.declared.map.Register.TheVariants.{Input, Timeout, Word}
+use Rattle.device.specs.declared.map.GateWord.TheVariants.{Timeout}
+use Rattle.device.specs.declared.map.Register.TheVariants.{Gates, Input, Word}
 use Rattle.device.specs.declared.state.Common.{Common}
 use Rattle.causes.specs.Causes.{is_done}
 use Rattle.registers.specs.Calls.{download_answer}
@@ -100,7 +101,7 @@ sheet_step c s (controlled w) = put_common (put_counter s (reset_counter w s.cou
 sheet_step c s (keyed w) = put_common s (key_write w s.common)
 sheet_step c s (enabled w) = put_common s (enable_write w s.common)
 sheet_step c s (reloaded w) = put_common s (reload_write w s.common)
-sheet_step c s (timed g w) = put_gates s (set s.gates g (with_timeout (kept (Timeout g) w) (gate_at s.gates g)))
+sheet_step c s (timed g w) = put_gates s (set s.gates g (with_timeout (kept (Gates (Timeout g)) w) (gate_at s.gates g)))
 sheet_step c s (grouped n) = put_group s n
 sheet_step c s (moded w) = put_gates s (each_gate with_mode w s.gates)
 sheet_step c s (prepared w) = put_gates s (each_gate with_prepare w s.gates)

@@ -8,7 +8,7 @@ use Rattle.device.specs.declared.state.Common.{Common}
 use Rattle.device.specs.declared.state.Crate.{Crate}
 use Rattle.device.specs.declared.state.Events.{Events}
 use Rattle.causes.specs.Causes.{Answer, is_done}
-use Rattle.device.specs.State.{events_of, with_common, with_counters, with_events, with_gates, with_rest}
+use Rattle.device.specs.State.{events_of, with_common, with_counters, with_events, with_gates, with_status}
 use Rattle.writing.specs.Write.{dataset_in, request_answer, requested}
 
 -- the Manual's Table 3.37: command in bits 15-12, key in 31-16
@@ -33,7 +33,7 @@ abbrev pub noted : Bool → ℕ → Events → Events
 noted right t e = events_of (code_of t) (key_of t) (pick right (code_of t) e.code) e.handled
 
 abbrev pub noted_in : Crate → ℕ → Crate
-noted_in s t = with_rest s (with_events s.rest (noted (right_key s.common t) t s.rest.events))
+noted_in s t = with_status s (with_events s.status (noted (right_key s.common t) t s.status.events))
 
 -- command 0x1 makes a request, or is refused and leaves queue and loader
 unfoldable pub tag_request : ℕ → Common → Common

@@ -88,11 +88,11 @@ pub fn tag_crate(s: &mut Crate, t: u32) -> Result<(), Cause>
         return Ok(());
     }
     let tag = EventTag::from(t);
-    s.rest.events.low = tag.code;
-    s.rest.events.high = tag.key;
+    s.status.events.low = tag.code;
+    s.status.events.high = tag.key;
     if tag.key != s.common.key {
         return Ok(());
     }
-    s.rest.events.code = tag.code;
+    s.status.events.code = tag.code;
     run_command(s, tag)
 }

@@ -11,8 +11,8 @@ use Rattle.watchdogs.specs.Watchdog.{step_watchdogs}
 use Rattle.device.specs.declared.state.Common.{Common}
 use Rattle.device.specs.declared.state.Crate.{Crate}
 use Rattle.device.specs.declared.state.Events.{Events}
-use Rattle.device.specs.declared.state.Rest.{Rest}
-use Rattle.device.specs.State.{crate_of, common_of, rest_of, events_of}
+use Rattle.device.specs.declared.state.Status.{Status}
+use Rattle.device.specs.State.{crate_of, common_of, events_of, status_of}
 
 -- phases, queue and loader
 unfoldable pub common_tick : Common → Common
@@ -30,13 +30,11 @@ last_handled (Some l) before = l.next
 abbrev pub handled_by : Option Reload → Events → Events
 handled_by l e = events_of e.low e.high e.code (last_handled l e.handled)
 
--- what no counter sees, with the raw counts as they are after the tick
-unfoldable pub rest_tick : Rest → List ℕ → ℕ → ℕ → Option Reload → Rest
-rest_tick r rawcounts rises gatelevels l =
-    rest_of r.masks r.timeout r.selections (step_watchdogs r.timeout rises r.watchdogs) rawcounts gatelevels (handled_by l r.events)
+-- raw counts take the input rises as they are: "Gates, selections and RESET have no effect"
+unfoldable pub status_tick : ℕ → ℕ → Option Reload → Status → Status
+status_tick rises gatelevels l s = status_of (count_rises rises s.rawcounts) gatelevels (handled_by l s.events)
 
--- "A tick runs: test phases, input rises, gates, counters, watchdogs, loader; then event pulses are dropped and levels kept." Raw counts take
--- the input rises as they are: "Gates, selections and RESET have no effect"
+-- "A tick runs: test phases, input rises, gates, counters, watchdogs, loader; then event pulses are dropped and levels kept."
 unfoldable pub tick_of : Crate → List ℕ → ℕ → ℕ → Crate
 tick_of s memory inputs gatelevels =
     let rises : ℕ = rises_of s.levels inputs s.common.phases in
@@ -44,5 +42,5 @@ tick_of s memory inputs gatelevels =
     crate_of
     (load_into s.common.loader s.groups memory
     (tick_counters s.common.control rises (outputs_of s.gates) (outputs_of gates) s.counters))
-    s.groups gates inputs (common_tick s.common)
-    (rest_tick s.rest (count_rises rises s.rest.rawcounts) rises gatelevels s.common.loader)
+    s.groups gates (step_watchdogs s.settings.timeout rises s.watchdogs) inputs (common_tick s.common) s.settings
+    (status_tick rises gatelevels s.common.loader s.status)

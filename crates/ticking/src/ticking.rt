@@ -1,9 +1,9 @@
 // A tick of the crate, in document 01's order: phases, rises, gates, counters, watchdogs, loader.
 ghost use Rattle.std.specs.Prelude.{◌≡◌};
-ghost use Rattle.ticking.specs.Tick.{common_tick, handled_by, rest_tick, tick_of};
+ghost use Rattle.ticking.specs.Tick.{common_tick, handled_by, status_tick, tick_of};
 
 use counters::Drive;
-use device::{Common, Crate, Events, Rest};
+use device::{Common, Crate, Events, Status};
 use gates::Gate;
 use lines::Levels;
 use loader::Reload;
@@ -26,18 +26,18 @@ fn note_handled(e: &mut Events, loader: Option<Reload>)
     }
 }
 
-// Watchdogs, the gate levels, the last counter handled; the raw counts stay.
-#[tactic(auto, unfolding(crate::specs::Tick::rest_tick))]
-fn tick_rest(rest: &mut Rest, rises: u64, gatelevels: u16, loader: Option<Reload>)
-    ensures { rest.new ≡ rest_tick rest.old rest.old.rawcounts rises gatelevels loader }
+// The raw counts, the gate levels, the last counter handled.
+#[tactic(auto, unfolding(crate::specs::Tick::status_tick))]
+fn tick_status(status: &mut Status, rises: u64, gatelevels: u16, loader: Option<Reload>)
+    ensures { status.new ≡ status_tick rises gatelevels loader status.old }
 {
-    watchdogs::step_watchdogs(&mut rest.watchdogs, rest.timeout, rises);
-    rest.gatelevels = gatelevels;
-    note_handled(&mut rest.events, loader);
+    lines::count_rises(&mut status.rawcounts, rises);
+    status.gatelevels = gatelevels;
+    note_handled(&mut status.events, loader);
 }
 
 // One tick at levels of lines that exist.
-#[tactic(auto, unfolding(crate::specs::Tick::tick_of, crate::specs::Tick::common_tick, crate::specs::Tick::rest_tick, gates::specs::Gate::outputs_of))]
+#[tactic(auto, unfolding(crate::specs::Tick::tick_of, gates::specs::Gate::outputs_of))]
 pub fn tick_crate(s: &mut Crate, mem: &[u16; 16384], levels: Levels)
     ensures { s.new ≡ tick_of s.old mem.now levels.inputs levels.gates }
 {
@@ -55,7 +55,7 @@ pub fn tick_crate(s: &mut Crate, mem: &[u16; 16384], levels: Levels)
     counters::tick_counters(&mut s.counters, drive);
     loader::load_into(loader, &s.groups, mem, &mut s.counters);
     tick_common(&mut s.common);
-    lines::count_rises(&mut s.rest.rawcounts, rises);
-    tick_rest(&mut s.rest, rises, levels.gates, loader);
+    watchdogs::step_watchdogs(&mut s.watchdogs, s.settings.timeout, rises);
+    tick_status(&mut s.status, rises, levels.gates, loader);
     s.levels = levels.inputs;
 }

@@ -9,15 +9,20 @@ use Rattle.gates.specs.Gate.{each_gate, gate_at, with_mode, with_prepare, with_r
 use Rattle.loader.specs.Loader.{Queue, is_beyond, is_full, pushed, request_for}
 use Rattle.watchdogs.specs.Watchdog.{reset_watchdogs}
 use Rattle.causes.specs.declared.Cause.TheVariants.{ReadOnly, Dataset, Full}
+use Rattle.device.specs.declared.map.GateWord.{GateWord}
+use Rattle.device.specs.declared.map.GateWord.TheVariants.{Mode, Timeout, Prepare, Recover}
 use Rattle.device.specs.declared.map.Register.{Register}
-use Rattle.device.specs.declared.map.Register.TheVariants.{Readout, Other, Control, Mode, Timeout, Key, Enable, Reload, Prepare, Recover, Input, Group, Word}
-use Rattle.device.specs.declared.map.Setting.{Setting}
-use Rattle.device.specs.declared.map.Setting.TheVariants.{Mask, WatchdogTimeout, WatchdogReset, Selection}
+use Rattle.device.specs.declared.map.Register.TheVariants.{Readout, Setting, Shared, Gates, Watchdogs, Input, Group, Word}
+use Rattle.device.specs.declared.map.SettingWord.{SettingWord}
+use Rattle.device.specs.declared.map.SettingWord.TheVariants.{Mask, WatchdogTimeout, Selection}
+use Rattle.device.specs.declared.map.SharedWord.{SharedWord}
+use Rattle.device.specs.declared.map.SharedWord.TheVariants.{Control, Key, Enable, Reload}
 use Rattle.device.specs.declared.state.Common.{Common}
-use Rattle.device.specs.declared.state.Rest.{Rest}
+use Rattle.device.specs.declared.state.Settings.{Settings}
 use Rattle.causes.specs.Causes.{Answer, is_done}
 use Rattle.device.specs.Map.{kept}
-use Rattle.device.specs.State.{Machine, rest_of, with_common, with_counters, with_gates, with_groups, with_memory, with_queue, with_registers, with_rest, with_state}
+use Rattle.device.specs.State.{Machine, with_common, with_counters, with_gates, with_groups, with_memory, with_queue, with_registers, with_settings, with_state, with_watchdogs}
+use Rattle.device.specs.State.{with_masks, with_selections, with_watchdog_timeout}
 
 -- a request: "dataset above 31" 4, before "16 requests wait" 5
 unfoldable pub request_answer : Queue → ℕ → Answer
@@ -50,51 +55,59 @@ with_reload w cm = with_registers cm cm.control cm.key cm.enable w
 -- a refused request stores nothing
 unfoldable pub reload_write : ℕ → Common → Common
 reload_write w cm =
-    pick (is_done (reload_answer w cm)) (with_reload (kept Reload w) (pick (triggers w cm) (requested w cm) cm)) cm
+    pick (is_done (reload_answer w cm)) (with_reload (kept (Shared Reload) w) (pick (triggers w cm) (requested w cm) cm)) cm
 
 unfoldable pub control_write : ℕ → Common → Common
-control_write w cm = with_registers cm (kept Control w) cm.key cm.enable cm.reload
+control_write w cm = with_registers cm (kept (Shared Control) w) cm.key cm.enable cm.reload
 
 unfoldable pub key_write : ℕ → Common → Common
-key_write w cm = with_registers cm cm.control (kept Key w) cm.enable cm.reload
+key_write w cm = with_registers cm cm.control (kept (Shared Key) w) cm.enable cm.reload
 
 unfoldable pub enable_write : ℕ → Common → Common
-enable_write w cm = with_registers cm cm.control cm.key (kept Enable w) cm.reload
+enable_write w cm = with_registers cm cm.control cm.key (kept (Shared Enable) w) cm.reload
 
 -- a word of an output's block
 abbrev pub with_selected : List (List ℕ) → ℕ → ℕ → ℕ → List (List ℕ)
 with_selected selections o k w = set selections o (set (get_or selections o []) k w)
 
--- registers that no counter sees
-unfoldable pub rest_write : Setting → ℕ → Rest → Rest
-rest_write (Mask k) w r =
-    rest_of (set r.masks k (kept (Other (Mask k)) w)) r.timeout r.selections r.watchdogs r.rawcounts r.gatelevels r.events
-rest_write WatchdogTimeout w r =
-    rest_of r.masks (kept (Other WatchdogTimeout) w) r.selections r.watchdogs r.rawcounts r.gatelevels r.events
-rest_write (WatchdogReset k) w r =
-    rest_of r.masks r.timeout r.selections (reset_watchdogs k w r.watchdogs) r.rawcounts r.gatelevels r.events
-rest_write (Selection o k) w r =
-    rest_of r.masks r.timeout (with_selected r.selections o k (kept (Other (Selection o k)) w)) r.watchdogs r.rawcounts r.gatelevels r.events
+-- a write to a setting
+unfoldable pub settings_write : SettingWord → ℕ → Settings → Settings
+settings_write (Mask k) w s = with_masks s (set s.masks k (kept (Setting (Mask k)) w))
+settings_write WatchdogTimeout w s = with_watchdog_timeout s (kept (Setting WatchdogTimeout) w)
+settings_write (Selection o k) w s =
+    with_selections s (with_selected s.selections o k (kept (Setting (Selection o k)) w))
+
+-- a write to a register that all counters share: what it answers, which is cause 4 or 5 of 0x0A02 alone, and what it does
+abbrev pub shared_answer : SharedWord → ℕ → Common → Answer
+shared_answer Reload w cm = reload_answer w cm
+shared_answer q w cm = Ok tt
+
+unfoldable pub shared_write : SharedWord → ℕ → Common → Common
+shared_write Control w cm = control_write w cm
+shared_write Key w cm = key_write w cm
+shared_write Enable w cm = enable_write w cm
+shared_write Reload w cm = reload_write w cm
+
+-- "While RESET (bit 0) is set all counts are 0": from the write to 0x0801 on
+unfoldable pub reset_by : ℕ → List Counter → List Counter
+reset_by w counters = pick (reset_on w) (clear_counters counters) counters
+
+abbrev pub shared_clears : SharedWord → ℕ → List Counter → List Counter
+shared_clears Control w counters = reset_by w counters
+shared_clears q w counters = counters
+
+-- a write to a register of the gates
+unfoldable pub gates_write : GateWord → ℕ → List Gate → List Gate
+gates_write Mode w gates = each_gate with_mode w gates
+gates_write (Timeout g) w gates = set gates g (with_timeout (kept (Gates (Timeout g)) w) (gate_at gates g))
+gates_write Prepare w gates = each_gate with_prepare w gates
+gates_write Recover w gates = each_gate with_recover w gates
 
 -- cause 3, then for 0x0A02 those of a request
 unfoldable pub write_answer : Common → Register → ℕ → Answer
-write_answer cm (Readout r) w = Err ReadOnly
-write_answer cm (Other r) w = Ok tt
-write_answer cm Control w = Ok tt
-write_answer cm Mode w = Ok tt
-write_answer cm (Timeout g) w = Ok tt
-write_answer cm Key w = Ok tt
-write_answer cm Enable w = Ok tt
-write_answer cm Reload w = reload_answer w cm
-write_answer cm Prepare w = Ok tt
-write_answer cm Recover w = Ok tt
-write_answer cm (Input n) w = Ok tt
-write_answer cm (Group k) w = Ok tt
-write_answer cm (Word i) w = Ok tt
-
--- "While RESET (bit 0) is set all counts are 0": from the write on
-unfoldable pub reset_by : ℕ → List Counter → List Counter
-reset_by w counters = pick (reset_on w) (clear_counters counters) counters
+write_answer cm (Readout q) w = Err ReadOnly
+write_answer cm (Shared q) w = shared_answer q w cm
+write_answer cm r w = Ok tt
 
 abbrev pub on_counters : Machine → List Counter → Machine
 on_counters m x = with_state m (with_counters m.state x)
@@ -107,17 +120,12 @@ on_common m x = with_state m (with_common m.state x)
 
 -- what a write to a register does; a refused one leaves all
 unfoldable pub write_at : Machine → Register → ℕ → Machine
-write_at m (Readout r) w = m
-write_at m (Other r) w = with_state m (with_rest m.state (rest_write r w m.state.rest))
-write_at m Control w = on_common (on_counters m (reset_by w m.state.counters)) (control_write w m.state.common)
-write_at m Mode w = on_gates m (each_gate with_mode w m.state.gates)
-write_at m (Timeout g) w =
-    on_gates m (set m.state.gates g (with_timeout (kept (Timeout g) w) (gate_at m.state.gates g)))
-write_at m Key w = on_common m (key_write w m.state.common)
-write_at m Enable w = on_common m (enable_write w m.state.common)
-write_at m Reload w = on_common m (reload_write w m.state.common)
-write_at m Prepare w = on_gates m (each_gate with_prepare w m.state.gates)
-write_at m Recover w = on_gates m (each_gate with_recover w m.state.gates)
+write_at m (Readout q) w = m
+write_at m (Setting q) w = with_state m (with_settings m.state (settings_write q w m.state.settings))
+write_at m (Shared q) w =
+    on_common (on_counters m (shared_clears q w m.state.counters)) (shared_write q w m.state.common)
+write_at m (Gates q) w = on_gates m (gates_write q w m.state.gates)
+write_at m (Watchdogs k) w = with_state m (with_watchdogs m.state (reset_watchdogs k w m.state.watchdogs))
 write_at m (Input n) w =
     on_counters m (set m.state.counters n (with_input (counter_at m.state.counters n) (kept (Input n) w)))
 write_at m (Group k) w = with_state m (with_groups m.state (set m.state.groups k (kept (Group k) w)))

@@ -6,10 +6,10 @@ ghost use Rattle.loader.specs.Loader.{pushed};
 ghost use Rattle.causes.specs.Causes.{is_done};
 ghost use Rattle.device.specs.Map.{selection_bits};
 ghost use Rattle.device.specs.State.{machine, with_common, with_counters, with_queue};
-ghost use Rattle.writing.specs.Write.{request_answer, triggers, reload_answer, reload_write, control_write, with_selected, rest_write, write_answer, reset_by, write_at};
+ghost use Rattle.writing.specs.Write.{request_answer, triggers, reload_answer, reload_write, control_write, with_selected, settings_write, shared_answer, shared_clears, shared_write, gates_write, write_answer, reset_by, write_at};
 
 use causes::Cause;
-use device::{Common, Crate, Register, Rest, Setting};
+use device::{Common, Crate, GateWord, Register, SettingWord, Settings, SharedWord};
 use gates::Gate;
 use loader::{Dataset, Request};
 
@@ -67,19 +67,16 @@ fn write_selection(selections: &mut [[u16; 22]; 6], output: usize, place: usize,
 }
 
 // A write to a setting.
-#[tactic(auto, unfolding(crate::specs::Write::rest_write, device::specs::Map::kept))]
-fn write_setting(rest: &mut Rest, r: Setting, word: u16)
-    ensures { rest.new ≡ rest_write r word rest.old }
+#[tactic(auto, unfolding(crate::specs::Write::settings_write, device::specs::Map::kept))]
+fn write_setting(s: &mut Settings, q: SettingWord, word: u16)
+    ensures { s.new ≡ settings_write q word s.old }
 {
-    match r {
-        Setting::Mask(k) => lists::change(&mut rest.masks, k.into(), |_| word % 4096),
-        Setting::WatchdogTimeout => rest.timeout = word,
-        Setting::WatchdogReset(k) => {
-            watchdogs::reset_watchdogs(&mut rest.watchdogs, k.into(), word);
-        }
-        Setting::Selection { output, place } => {
+    match q {
+        SettingWord::Mask(k) => lists::change(&mut s.masks, k.into(), |_| word % 4096),
+        SettingWord::WatchdogTimeout => s.timeout = word,
+        SettingWord::Selection { output, place } => {
             let kept = keep_selection(place, word);
-            write_selection(&mut rest.selections, output.into(), place.into(), kept);
+            write_selection(&mut s.selections, output.into(), place.into(), kept);
         }
     }
 }
@@ -95,24 +92,46 @@ fn write_control(s: &mut Crate, word: u16)
     }
 }
 
+// A write to a register that all counters share.
+#[tactic(auto, unfolding(crate::specs::Write::shared_write, crate::specs::Write::key_write, crate::specs::Write::enable_write, device::specs::Map::kept))]
+fn write_shared(s: &mut Crate, q: SharedWord, word: u16) -> Result<(), Cause>
+    ensures { (result ≡ shared_answer q word s.old.common) × (s.new ≡ with_common (with_counters s.old (shared_clears q word s.old.counters)) (shared_write q word s.old.common)) }
+{
+    match q {
+        SharedWord::Control => write_control(s, word),
+        SharedWord::Key => s.common.key = word,
+        SharedWord::Enable => s.common.enable = word % 2,
+        SharedWord::Reload => return write_reload(&mut s.common, word),
+    }
+    Ok(())
+}
+
+// A write to a register of the gates.
+#[tactic(auto, using(lists::proofs::Sweep::get_d_any), unfolding(crate::specs::Write::gates_write, device::specs::Map::kept, gates::specs::Gate::gate_at))]
+fn write_gates(gates: &mut [Gate; 12], q: GateWord, word: u16)
+    ensures { gates.new ≡ gates_write q word gates.old }
+{
+    match q {
+        GateWord::Mode => gates::change_gates(gates, word, Gate::with_mode),
+        GateWord::Timeout(g) => lists::change(gates, g.into(), |gate| gate.with_timeout(word)),
+        GateWord::Prepare => gates::change_gates(gates, word, Gate::with_prepare),
+        GateWord::Recover => gates::change_gates(gates, word, Gate::with_recover),
+    }
+}
+
 // What a write answers, and does to the crate and the memory; a refused one leaves both.
-#[tactic(auto, using(lists::proofs::Sweep::get_d_any), unfolding(crate::specs::Write::write_at, crate::specs::Write::write_answer, crate::specs::Write::key_write, crate::specs::Write::enable_write, device::specs::Map::kept, counters::specs::Counter::counter_at, gates::specs::Gate::gate_at))]
+#[tactic(auto, using(lists::proofs::Sweep::get_d_any), unfolding(crate::specs::Write::write_at, crate::specs::Write::write_answer, device::specs::Map::kept, counters::specs::Counter::counter_at))]
 pub fn write_at(s: &mut Crate, mem: &mut [u16; 16384], r: Register, word: u16) -> Result<(), Cause>
     ensures { (result ≡ write_answer s.old.common r word) × (machine s.new mem.new ≡ write_at (machine s.old mem.old) r word) }
 {
     match r {
         Register::Readout(_) => return Err(Cause::ReadOnly),
-        Register::Other(setting) => write_setting(&mut s.rest, setting, word),
-        Register::Control => write_control(s, word),
-        Register::Mode => gates::change_gates(&mut s.gates, word, Gate::with_mode),
-        Register::Timeout(g) => {
-            lists::change(&mut s.gates, g.into(), |gate| gate.with_timeout(word));
+        Register::Setting(q) => write_setting(&mut s.settings, q, word),
+        Register::Shared(q) => return write_shared(s, q, word),
+        Register::Gates(q) => write_gates(&mut s.gates, q, word),
+        Register::Watchdogs(k) => {
+            watchdogs::reset_watchdogs(&mut s.watchdogs, k.into(), word);
         }
-        Register::Key => s.common.key = word,
-        Register::Enable => s.common.enable = word % 2,
-        Register::Reload => return write_reload(&mut s.common, word),
-        Register::Prepare => gates::change_gates(&mut s.gates, word, Gate::with_prepare),
-        Register::Recover => gates::change_gates(&mut s.gates, word, Gate::with_recover),
         Register::Input(n) => {
             lists::change(&mut s.counters, n.into(), |c| c.with_input(word));
         }

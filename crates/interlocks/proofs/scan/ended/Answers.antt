@@ -24,13 +24,13 @@ alike xs ys e =
     (λ p. absurd (true≢false (rw p at e)))
 
 pub loop-k-init : goal.loop-k-init
-loop-k-init c = sym (tabulate_fill 6 None) ∙ ended_none c.args.s.now.rest.selections (signals c.args.s.now)
+loop-k-init c = sym (tabulate_fill 6 None) ∙ ended_none c.args.s.now.settings.selections (signals c.args.s.now)
 
 pub loop-k-preserved : goal.loop-k-preserved
 loop-k-preserved c =
     let s = c.args.s.now in
     let l = c.loop-k in
-    let chosen = s.rest.selections in
+    let chosen = s.settings.selections in
     let words = c.words_next-words.ensures ∙ (λ i. words_next (l.invariant i) chosen l.k) in
     elim c.if-ne.branch [
       | then-ne w ↦

@@ -4,4 +4,4 @@ use Rattle.interlocks.proofs.Scanning.{ended_after}
 use Rattle.interlocks.proofs.scan.ended.Given as goal
 
 abbrev pub invariant-loop-k : goal.invariant-loop-k
-invariant-loop-k l = l.ended ≡ ended_after l.s.rest.selections (signals l.s) l.k
+invariant-loop-k l = l.ended ≡ ended_after l.s.settings.selections (signals l.s) l.k

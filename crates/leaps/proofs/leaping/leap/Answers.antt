@@ -3,16 +3,17 @@ use borrow.Author.Rules.{rules}
 use Rattle.gates.specs.Gate.{output, outputs_of}
 use Rattle.counters.proofs.Leaps.{table_rises}
 use Rattle.lines.specs.Leap.{rises_in}
-use Rattle.leaps.specs.Leap.{leap_common, leap_of, leap_rest}
+use Rattle.leaps.specs.Leap.{leap_common, leap_of}
 use Rattle.leaps.proofs.leaping.leap.Goals as goal
 
 pub returns : goal.returns
-unfolding leap_of leap_common leap_rest outputs_of
+unfolding leap_of leap_common outputs_of
 returns c =
     let a = c.args in
     let s = a.s.now in (
       rw (
-        c.leap_rest.ensures.0,
+        c.leap_status.ensures.0,
+        c.leap_watchdogs.ensures,
         c.leap_common.ensures,
         c.leap_gates.ensures,
         c.leap_counters.ensures.0,
@@ -20,5 +21,5 @@ returns c =
         c.rises_in.ensures,
         table_rises s.common.control (outputs_of s.gates) (rises_in a.k s.common.phases) s.counters,
       ),
-      record { counters = c.leap_counters.ensures.1; rawcounts = c.leap_rest.ensures.1 },
+      record { counters = c.leap_counters.ensures.1; rawcounts = c.leap_status.ensures.1 },
     )
