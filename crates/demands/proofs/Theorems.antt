@@ -9,20 +9,28 @@ use borrow.Author.Tests.{eq-eqb}
 use lib.ListN.{get_or, length}
 use Rattle.std.proofs.Common.{Result, Ok, Some}
 use Rattle.bools.specs.Pick.{pick}
+use Rattle.words.specs.Word.{bit}
 use Rattle.loader.specs.declared.loader.Request.{Request}
 use Rattle.loader.specs.Memory.{is_whole}
 use Rattle.causes.specs.declared.Cause.{Cause}
 use Rattle.device.specs.declared.state.Crate.{Crate}
-use Rattle.causes.specs.Causes.{Answer, number_of}
+use Rattle.causes.specs.Causes.{Answer, is_done, number_of}
+use Rattle.device.specs.Map.{kept_at}
 use Rattle.device.specs.State.{Machine, memory0, power_up}
-use Rattle.reading.specs.Read.{read_of}
+use Rattle.interlocks.specs.declared.scan.OutputScan.{OutputScan}
+use Rattle.interlocks.specs.Interlock.{trips}
+use Rattle.interlocks.specs.Scan.{scan_of}
+use Rattle.reading.specs.Read.{low_first, read_of, word_shown}
 use Rattle.records.specs.Stops.{stop_number}
 use Rattle.records.specs.Records.{record_at}
-use Rattle.registers.specs.Calls.{Call, accepted_ticks, after, machine0, powered, powered_memory, refusals, step}
+use Rattle.registers.specs.Calls.{Call, write, accepted_ticks, after, left_by_refusal, machine0, powered, powered_memory, refusals, step}
+use Rattle.sheet.specs.Follows.{follows_at}
 use Rattle.sheet.specs.Lines.{Holds, Lines, own_lines}
 use Rattle.sheet.specs.OwnPart.{Cut, own_part, own_part_of}
-use Rattle.sheet.specs.Raw.{levels_of}
+use Rattle.sheet.specs.Raw.{levels_of, raw_count}
+use Rattle.sheet.specs.Reachable.{OfWords, Reached}
 use Rattle.sheet.specs.Requests.{Stands, finished, request_made, stand_after, waits}
+use Rattle.sheet.specs.Scans.{scan_at}
 use Rattle.sheet.specs.Settled.{SettledCut, settled, settled_part_of}
 use Rattle.sheet.specs.Sheet.{sheet_after, sheet_shows}
 use Rattle.sheet.specs.Shows.{shows}
@@ -33,7 +41,7 @@ use Rattle.trace.specs.Passed.{calls_in, passed_in}
 use Rattle.trace.specs.Run.{Run, begun, once_of, progress_of, run, run_of}
 use Rattle.trace.specs.Sound.{Sound}
 use Rattle.demands.specs.Conditions.{Goes, bytes_in, cause_of, fate_of, first, gone_by, left_by, power_up_conditions, shown_by, stopped}
-use Rattle.demands.specs.Returned.{Acted, Looked, Numbered, Powered, Ran, Rehearsed, Saw}
+use Rattle.demands.specs.Returned.{Acted, Looked, Numbered, Powered, Ran, Rehearsed, Returned, Saw, Scanned}
 use Rattle.demands.specs.Seen.{Act, reading, tracing, Seen, told, reported, callings, list_of, seen_of}
 use Rattle.demands.proofs.Acts as acting
 use Rattle.demands.proofs.Ends as ending
@@ -198,3 +206,92 @@ pub code_raw_alike : (j : ℕ) → j < 108 → (l m : List Act) (n k : Machine) 
     levels_of (j / 2) (list_of l) ≡ levels_of (j / 2) (list_of m) →
     (p q : Result ℕ Cause) → Looked n (0x1300 + j) p → Looked k (0x1300 + j) q → p ≡ q
 code_raw_alike = returning.code_raw_alike
+
+-- ---- Beside the demands, of the code: what every theorem about lists says of what the functions return
+
+-- Two beginnings of two lists with the same own part so far, taken with the own lines of the whole lists, show c alike ..
+pub code_alike_cut : (c : ℕ) → c < 128 → (l m : List Act) (l₂ m₂ : List Call) (n k : Machine) → Rehearsed l n → Rehearsed m k →
+    own_part (own_lines c (list_of l ++ l₂)) c (list_of l) ≡ own_part (own_lines c (list_of m ++ m₂)) c (list_of m) → shows c n ≡ shows c k
+code_alike_cut = returning.code_alike_cut
+
+-- .. and so do two with the same settled part so far.
+pub code_alike_settled_cut : (c : ℕ) → c < 128 → (l m : List Act) (l₂ m₂ : List Call) (n k : Machine) → Rehearsed l n → Rehearsed m k →
+    settled c (own_part (own_lines c (list_of l ++ l₂)) c (list_of l)) ≡ settled c (own_part (own_lines c (list_of m ++ m₂)) c (list_of m)) →
+    shows c n ≡ shows c k
+code_alike_settled_cut = returning.code_alike_settled_cut
+
+module _ (l : List Act) (n : Machine) (h : Rehearsed l n) where
+  -- After every rehearsal whose downloads are of 16-bit words: all numbers in their ranges, unused bits 0, counts 0 while RESET is set.
+  pub code_reachable : OfWords (list_of l) → Reached n
+  code_reachable = returning.code_reachable l n h
+
+  -- A read then gives the word that the register has after the list's calls,
+  pub code_read : (a : ℕ) (q : Result ℕ Cause) → Looked n a q → q ≡ read_of (after (list_of l)) a
+  code_read = returning.code_read l n h
+
+  -- of a raw count the low and the high word of the number of rises of its input,
+  pub code_raw_reads : (j : ℕ) → j < 108 → (q : Result ℕ Cause) → Looked n (0x1300 + j) q → q ≡ Ok (low_first j (raw_count (j / 2) (list_of l)))
+  code_raw_reads = returning.code_raw_reads l n h
+
+  -- after an accepted write of the same register the written word less its unused bits,
+  pub code_read_back : (a w : ℕ) (given : Answer) (k : Machine) → Returned n (write a w) given k → given ≡ Ok tt →
+      (q : Result ℕ Cause) → Looked k a q → q ≡ Ok (kept_at a w)
+  code_read_back = returning.code_read_back l n h
+
+  -- and of any other what it gave, but for the side effects that `follows` names.
+  pub code_read_other : (a w b : ℕ) → (a ≡ b → ⊥) → follows_at a b ≡ false →
+      (p : Result ℕ Cause) → Looked n b p → (given : Answer) (k : Machine) → Returned n (write a w) given k →
+      (q : Result ℕ Cause) → Looked k b q → q ≡ p
+  code_read_other = returning.code_read_other l n h
+
+  -- A scan then gives levels and words of the list's calls,
+  pub code_scan : (q : Result (List OutputScan) Cause) → Scanned n q → q ≡ scan_of (after (list_of l))
+  code_scan = returning.code_scan l n h
+
+  -- and the words that it read make an output 0 where its level is 0.
+  pub code_scan_ends : (q : Result (List OutputScan) Cause) → Scanned n q → (o : ℕ) → o < 6 → (scan_at q o).level ≡ false →
+      trips n.state o (scan_at q o).words ≡ true
+  code_scan_ends = returning.code_scan_ends l n h
+
+-- On every crate and memory: a refused call leaves what the table says,
+pub code_refused : (m : Machine) (x : Call) (a : Answer) (n : Machine) → Returned m x a n → is_done a ≡ false → n ≡ left_by_refusal m x
+code_refused = returning.code_refused
+
+-- the levels of a scan are the bits of a read of 0x0719,
+pub code_scan_level : (m : Machine) (q : Result (List OutputScan) Cause) → Scanned m q → (p : Result ℕ Cause) → Looked m 0x0719 p →
+    (o : ℕ) → o < 6 → (scan_at q o).level ≡ bit (word_shown p) o
+code_scan_level = returning.code_scan_level
+
+-- no fewer of the first words than it read make an output 0,
+pub code_scan_least : (m : Machine) (q : Result (List OutputScan) Cause) → Scanned m q → (o : ℕ) → o < 6 →
+    (w : ℕ) → w < (scan_at q o).words → trips m.state o w ≡ false
+code_scan_least = returning.code_scan_least
+
+-- and all are read where its level is 1.
+pub code_scan_whole : (m : Machine) (q : Result (List OutputScan) Cause) → Scanned m q → (o : ℕ) → o < 6 → (scan_at q o).level ≡ true →
+    (scan_at q o).words ≡ 22
+code_scan_whole = returning.code_scan_whole
+
+-- A run on any crate and memory hands back ..
+module _ (m : Machine) (t : List ℕ) (budget : ℕ) (s : Crate) (report : Report) (memory : List ℕ) (ran : Ran m t budget s report memory) where
+  -- .. what one that has ended hands back,
+  pub code_run_halts : (run_of t budget m).progress.going ≡ false
+  code_run_halts = returning.code_run_halts m t budget s report memory ran
+
+  -- stopped by the record at its next offset, which changes nothing when it is taken once more,
+  pub code_run_stops : is_whole m.memory ≡ true → once_of t budget (run (progress_of s report false) memory) ≡ run (progress_of s report false) memory
+  code_run_stops = returning.code_run_stops m t budget s report memory ran
+
+  -- with numbers within the trace and the budget,
+  pub code_run_sound : Sound t budget report
+  code_run_sound = returning.code_run_sound m t budget s report memory ran
+
+  -- and the counts over the calls of the records that it passed.
+  pub code_run_records : report.records ≡ length (passed_in t budget m)
+  code_run_records = returning.code_run_records m t budget s report memory ran
+
+  pub code_run_ticks : report.ticks ≡ accepted_ticks (calls_in (passed_in t budget m))
+  code_run_ticks = returning.code_run_ticks m t budget s report memory ran
+
+  pub code_run_refusals : report.refused ≡ refusals m (calls_in (passed_in t budget m))
+  code_run_refusals = returning.code_run_refusals m t budget s report memory ran

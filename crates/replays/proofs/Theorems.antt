@@ -1,14 +1,14 @@
 -- Document 02, CR 2: a converted capture runs as its frames' ticks one by one.
 use Prim.Native.Nat.{ℕ, ◌≤◌}
 use mathlib.Core.Bool.{true, false}
-use mathlib.Core.List.{List, [], ◌∷◌, map}
+use mathlib.Core.List.{List, map}
 use mathlib.Core.Path.{◌≡◌, refl, sym, ap, subst, ◌∙◌}
 use lib.ListN.{length, take}
 use Rattle.std.proofs.Common.{Ok}
 use Rattle.loader.specs.Memory.{is_whole}
 use Rattle.device.specs.declared.state.Crate.{Crate}
 use Rattle.device.specs.State.{Machine, machine}
-use Rattle.registers.specs.Calls.{Call, from, step}
+use Rattle.registers.specs.Calls.{from}
 use Rattle.records.specs.declared.Stop.TheVariants.{End}
 use Rattle.trace.specs.declared.Report.{Report}
 use Rattle.trace.specs.Run.{machine_of, progress_of, report_of, run, run_of, run_on}
@@ -19,19 +19,11 @@ use Rattle.captures.specs.Written.{Frame}
 use Rattle.captures.proofs.Done.{made_done}
 use Rattle.captures.proofs.Levels.{good_records}
 use Rattle.captures.proofs.Theorems.{converted_back}
-use Rattle.sheet.specs.Returned.{Ran, Went, calling, list_from}
-use Rattle.sheet.proofs.Returned as returned
-use Rattle.demands.specs.Returned.{Went as WentSeen}
+use Rattle.demands.specs.Returned.{Ran, Went}
 use Rattle.demands.specs.Seen.{Seen, callings}
 use Rattle.demands.proofs.Acts.{one_by_one, went}
 use Rattle.replays.specs.Replayed.{tick_of, capture_ticks}
 use Rattle.replays.proofs.Passing.{run_written}
-
--- a list of calls alone is the list of what is done
-listed : (m : Machine) (l : List Call) → list_from m (map calling l) ≡ l
-unfolding list_from
-listed m [] = refl
-listed m (x ∷ l) = ap (λ (xs : List Call). x ∷ xs) (listed (step m x) l)
 
 -- from every crate, on a memory of 16,384 words (any other is refused 1), with budget enough
 module _ (capture : List ℕ) (budget : ℕ) (room : length (frames_of capture) ≤ budget) (m : Machine) (whole : is_whole m.memory ≡ true) where
@@ -57,12 +49,7 @@ module _ (capture : List ℕ) (budget : ℕ) (room : length (frames_of capture) 
         ∙ trace_runs d.good
         ∙ ap (λ (n : ℕ). run_on (from m (capture_ticks capture)) (report_of End n (length (frames_of capture)) (length (records_of capture)) 0) false) (sym d.size)
 
-    -- crate and memory are those that calls of `tick`, frame by frame, leave
-    pub convert_ticks : (n : Machine) → Went m (map calling (capture_ticks capture)) n → machine s memory ≡ n
-    convert_ticks n w =
-        ap machine_of convert_runs ∙ sym (returned.went m (map calling (capture_ticks capture)) n w ∙ ap (from m) (listed m (capture_ticks capture)))
-
-    -- the same of what the calls show
-    pub convert_ticks_seen : (seen : List Seen) (n : Machine) → WentSeen m (callings (capture_ticks capture)) seen n → machine s memory ≡ n
-    convert_ticks_seen seen n w =
+    -- crate and memory are those that calls of `tick`, frame by frame, leave, whatever they show
+    pub convert_ticks : (seen : List Seen) (n : Machine) → Went m (callings (capture_ticks capture)) seen n → machine s memory ≡ n
+    convert_ticks seen n w =
         ap machine_of convert_runs ∙ sym ((went m (callings (capture_ticks capture)) seen n w).1 ∙ ap (from m) (one_by_one m (capture_ticks capture)))

@@ -1,7 +1,6 @@
 pub mod Addresses
 pub mod Changes
 pub mod Computing
-pub mod Contracts
 pub mod Examples
 pub mod Fed
 pub mod Finishes
@@ -14,7 +13,6 @@ pub mod Projection
 pub mod Raw
 pub mod Reached
 pub mod ReadBack
-pub mod Returned
 pub mod Scans
 pub mod Settled
 pub mod SettledLists

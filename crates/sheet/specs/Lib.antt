@@ -4,7 +4,6 @@ pub mod OwnPart
 pub mod Raw
 pub mod Reachable
 pub mod Requests
-pub mod Returned
 pub mod Scans
 pub mod Settled
 pub mod Sheet
