@@ -4,6 +4,9 @@ use Rattle.bools.specs.Pick.{pick}
 use Rattle.lists.specs.Table.{tabulate}
 use Rattle.lines.specs.Lines.{bad_levels}
 use Rattle.records.specs.Records.{gate_bytes, input_bytes, number_at}
+use Rattle.causes.specs.declared.Cause.{Cause}
+use Rattle.causes.specs.declared.Cause.TheVariants as causes
+use Rattle.causes.specs.Causes.{cause_number}
 use Rattle.captures.specs.declared.Refusal.{Refusal}
 use Rattle.captures.specs.declared.Refusal.TheVariants.{NotFrames, BadLevel, NoRoom}
 use Rattle.captures.specs.Repeats.{Repeat, joined}
@@ -49,20 +52,14 @@ abbrev pub conversion : Result ℕ Refusal → List ℕ → Conversion
 conversion answer out = record { answer = answer; out = out }
 
 -- "not a multiple of nine, 12"; "a bad level, 6", which is cause 6 of document 01; "output too short, 13"
-abbrev pub not_frames : ℕ
-not_frames = 12
-
-abbrev pub bad_level : ℕ
-bad_level = 6
-
-abbrev pub no_room : ℕ
-no_room = 13
+abbrev pub cause_of : Refusal → Cause
+cause_of NotFrames = causes.NotFrames
+cause_of (BadLevel frame) = causes.Level
+cause_of NoRoom = causes.NoRoom
 
 -- "A refusal returns its number"
 abbrev pub number_of : Refusal → ℕ
-number_of NotFrames = not_frames
-number_of (BadLevel frame) = bad_level
-number_of NoRoom = no_room
+number_of why = cause_number (cause_of why)
 
 -- ".. and leaves the output as it was."
 abbrev pub refusal : Refusal → List ℕ → Conversion

@@ -2,12 +2,13 @@
 #![tactic(auto)]
 
 ghost use Rattle.std.specs.Prelude.{◌≡◌, Some};
-ghost use Rattle.captures.specs.Captures.{conversion, conversion_of, number_of};
+ghost use Rattle.captures.specs.Captures.{cause_of, conversion, conversion_of};
 ghost use Rattle.captures.specs.Sentences.{sentence};
 
 mod frames;
 mod traces;
 
+use causes::Cause;
 use std::error::Error;
 use std::fmt;
 use traces::{trace_bytes, write_trace};
@@ -21,15 +22,15 @@ pub enum Refusal {
     NoRoom,
 }
 
-// The number of the table of causes.
-impl From<Refusal> for u16 {
-    ghost from_gives = { λ why number. number ≡ number_of why };
+// Its place in the table of causes.
+impl From<Refusal> for Cause {
+    ghost from_gives = { λ why cause. cause ≡ cause_of why };
 
-    fn from(why: Refusal) -> u16 {
+    fn from(why: Refusal) -> Cause {
         match why {
-            Refusal::NotFrames => 12,
-            Refusal::BadLevel { .. } => 6,
-            Refusal::NoRoom => 13,
+            Refusal::NotFrames => Cause::NotFrames,
+            Refusal::BadLevel { .. } => Cause::Level,
+            Refusal::NoRoom => Cause::NoRoom,
         }
     }
 }

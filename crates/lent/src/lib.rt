@@ -4,6 +4,7 @@
 ghost use Rattle.std.specs.Prelude.{◌≡◌};
 ghost use Rattle.lent.specs.Sums.{lent_start, state_in, lent_sample, sum_sample_of, sum_start_of, words_of};
 
+use causes::Cause;
 use sums::Sliding;
 
 // The calls answer by a number and not by a `Result`, since `mirvacula` hands it on to C as it is: this, that of a refusal, or the next.
@@ -53,7 +54,7 @@ pub fn sum_start(state: &mut [u64], ring: &mut [i64], window: u64) -> u16
         // On a state of no window every sample is refused.
         Err(refusal) => {
             *state = words_of(Sliding::default());
-            refusal.into()
+            Cause::from(refusal).into()
         }
     }
 }
@@ -78,7 +79,7 @@ pub fn sum_sample(state: &mut [u64], ring: &mut [i64], sample: i32, sum: &mut [i
         }
         Err(refusal) => {
             *sum = [0];
-            refusal.into()
+            Cause::from(refusal).into()
         }
     }
 }

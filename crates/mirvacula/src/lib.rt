@@ -146,7 +146,7 @@ fn unanswered_code(bytes: usize) -> u16
     if bytes % 9 == 0 {
         BAD_BUFFER
     } else {
-        Refusal::NotFrames.into()
+        Cause::NotFrames.into()
     }
 }
 
@@ -172,7 +172,7 @@ pub extern "C" fn mirvacula_convert(capture: &[u8], out: &mut [u8], answer: &mut
     };
     let (number, length, frame) = match captures::convert(capture, out) {
         Ok(bytes) => (0, bytes as u64, 0),
-        Err(why) => (u16::from(why), 0, frame_in(why)),
+        Err(why) => (Cause::from(why).into(), 0, frame_in(why)),
     };
     *answer = [length, frame];
     number

@@ -4,6 +4,9 @@ use Rattle.std.specs.declared.result.Result.TheVariants.{Ok, Err}
 use Rattle.std.specs.Result.{result_unwrap_or}
 use Rattle.bools.specs.Pick.{pick}
 use Rattle.numbers.specs.Signed.{wrapped}
+use Rattle.causes.specs.declared.Cause.{Cause}
+use Rattle.causes.specs.declared.Cause.TheVariants as causes
+use Rattle.causes.specs.Causes.{cause_number}
 use Rattle.sums.specs.declared.BadSum.{BadSum}
 use Rattle.sums.specs.declared.Sliding.{Sliding}
 
@@ -15,8 +18,11 @@ abbrev pub largest_window : ℕ
 largest_window = 65536
 
 -- "Checks, at the start and at each sample: W outside its range, the ring shorter than W, or a state whose place in the ring is not below W, 14."
+abbrev pub cause_of : BadSum → Cause
+cause_of _ = causes.BadSum
+
 abbrev pub bad_sum : ℕ
-bad_sum = 14
+bad_sum = cause_number causes.BadSum
 
 abbrev pub refusal : BadSum
 refusal = record {}

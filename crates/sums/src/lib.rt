@@ -2,8 +2,9 @@
 #![tactic(auto)]
 
 ghost use Rattle.std.specs.Prelude.{◌≡◌, ◌+◌, ◌%◌, ◌<◌, is_ok, length};
-ghost use Rattle.sums.specs.Sums.{bad_sum, is_ready, next_sum, sample_of, sample_outcome, start_of, start_outcome};
+ghost use Rattle.sums.specs.Sums.{cause_of, is_ready, next_sum, sample_of, sample_outcome, start_of, start_outcome};
 
+use causes::Cause;
 use std::mem;
 
 // A window out of its range, a ring that is shorter, or a place that is not in the window.
@@ -11,11 +12,11 @@ use std::mem;
 pub struct BadSum;
 
 // 02, CR 4: "W outside its range, the ring shorter than W, or a state whose place in the ring is not below W, 14".
-impl From<BadSum> for u16 {
-    ghost from_gives = { λ _ number. number ≡ bad_sum };
+impl From<BadSum> for Cause {
+    ghost from_gives = { λ refusal cause. cause ≡ cause_of refusal };
 
-    fn from(_refusal: BadSum) -> u16 {
-        14
+    fn from(_refusal: BadSum) -> Cause {
+        Cause::BadSum
     }
 }
 
