@@ -12,7 +12,7 @@ use Rattle.lists.specs.Table.{table_from, tabulate}
 use Rattle.registers.specs.Calls.{Call, tick, accepted_ticks, answer, call_answer, from, is_refused, refusals, step, tick_one}
 use Rattle.device.specs.State.{Machine}
 use Rattle.lines.specs.Lines.{bad_levels}
-use Rattle.registers.proofs.Whole.{full}
+use Rattle.registers.proofs.Whole.{WholeMemory, full, is_whole_lem}
 
 pub from_append : (m : Machine) (l k : List Call) → from m (l ++ k) ≡ from (from m l) k
 unfolding from
@@ -32,16 +32,16 @@ refusals_append m (x ∷ l) k =
 
 -- a tick at levels of lines that exist is accepted, as often as it is repeated
 module _ (inputs gates : ℕ) (good : bad_levels inputs gates ≡ false) where
-  tick_accepted : (m : Machine) → length m.memory ≡ 16384 → is_refused m (tick inputs gates) ≡ false
+  tick_accepted : (m : Machine) → WholeMemory m.memory → is_refused m (tick inputs gates) ≡ false
   unfolding answer call_answer
-  tick_accepted m h = rw (eq-eqb (length m.memory) 16384 h, good)
+  tick_accepted m h = rw (is_whole_lem m.memory h, good)
 
   ticks_from : (i n : ℕ) → accepted_ticks (table_from i n (λ k. tick inputs gates)) ≡ n
   unfolding accepted_ticks table_from
   ticks_from i zero = refl
   ticks_from i (suc n) = rw (good, ticks_from (suc i) n) (omega arith)
 
-  refusals_from : (i n : ℕ) (m : Machine) → length m.memory ≡ 16384 → refusals m (table_from i n (λ k. tick inputs gates)) ≡ 0
+  refusals_from : (i n : ℕ) (m : Machine) → WholeMemory m.memory → refusals m (table_from i n (λ k. tick inputs gates)) ≡ 0
   unfolding refusals table_from
   refusals_from i zero m h = refl
   refusals_from i (suc n) m h =
@@ -51,6 +51,6 @@ module _ (inputs gates : ℕ) (good : bad_levels inputs gates ≡ false) where
   unfolding tabulate
   ticks_repeated n = ticks_from 0 n
 
-  pub refusals_repeated : (n : ℕ) (m : Machine) → length m.memory ≡ 16384 → refusals m (tabulate n (λ k. tick inputs gates)) ≡ 0
+  pub refusals_repeated : (n : ℕ) (m : Machine) → WholeMemory m.memory → refusals m (tabulate n (λ k. tick inputs gates)) ≡ 0
   unfolding tabulate
   refusals_repeated n m h = refusals_from 0 n m h

@@ -17,6 +17,7 @@ use Rattle.device.specs.declared.map.ReadoutWord.TheVariants.{Negative, Positive
 use Rattle.device.specs.Map.{decode_of, status_map}
 use Rattle.reading.specs.Read.{read_of, readout_word, word_in, word_shown}
 use Rattle.device.specs.State.{Machine}
+use Rattle.registers.proofs.Whole.{WholeMemory, read_whole}
 
 decode_negative : (k : ℕ) → k < 8 → decode_of (0x0700 + k) ≡ Some (Readout (Negative k))
 unfolding decode_of status_map
@@ -36,14 +37,14 @@ decode_positive k h =
       e,
     )
 
-module _ (m : Machine) (whole : length m.memory ≡ memory_words) where
+module _ (m : Machine) (whole : WholeMemory m.memory) where
   read_negative : (k : ℕ) → k < 8 → read_of m (0x0700 + k) ≡ Ok (overflow_word is_under m.state.counters k)
-  unfolding read_of word_in readout_word
-  read_negative k h = rw (eq-eqb (length m.memory) memory_words whole, decode_negative k h)
+  unfolding word_in readout_word
+  read_negative k h = read_whole m whole (0x0700 + k) ∙ rw (decode_negative k h)
 
   read_positive : (k : ℕ) → k < 8 → read_of m (0x0708 + k) ≡ Ok (overflow_word is_over m.state.counters k)
-  unfolding read_of word_in readout_word
-  read_positive k h = rw (eq-eqb (length m.memory) memory_words whole, decode_positive k h)
+  unfolding word_in readout_word
+  read_positive k h = read_whole m whole (0x0708 + k) ∙ rw (decode_positive k h)
 
   overflow_bit : (test : Counter → Bool) (c : ℕ) → bit (overflow_word test m.state.counters (c / 16)) (c % 16) ≡ test (counter_at m.state.counters c)
   unfolding overflow_word

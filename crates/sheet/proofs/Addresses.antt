@@ -5,68 +5,82 @@ use mathlib.Core.Path.{◌≡◌, refl, sym, subst, ◌∙◌}
 use Rattle.std.proofs.lemmas.Bool.Decides.{nat_tests}
 use Rattle.std.proofs.Common.{Option, Some, None}
 use Rattle.device.specs.declared.map.Register.{Register}
-use Rattle.device.specs.declared.map.Register.TheVariants.{Readout, Other, Control, Mode, Timeout, Key, Enable, Reload, Prepare, Recover, Input, Group, Word}
-use Rattle.device.specs.declared.map.Setting.{Setting}
-use Rattle.device.specs.declared.map.Setting.TheVariants.{Mask, WatchdogTimeout, WatchdogReset, Selection}
-use Rattle.device.specs.declared.map.Status.{Status}
-use Rattle.device.specs.declared.map.Status.TheVariants.{Module, Negative, Positive, GateErrors, WatchdogErrors, GateInputs, GateOutputs, Outputs}
-use Rattle.device.specs.declared.map.Status.TheVariants.{GateStates, TagLow, TagHigh, Code, LoaderState, LoaderCounter, Count, Raw, Threshold}
+use Rattle.device.specs.declared.map.Register.TheVariants.{Readout, Setting, Shared, Gates, Watchdogs, Input, Group, Word}
+use Rattle.device.specs.declared.map.GateWord.{GateWord}
+use Rattle.device.specs.declared.map.GateWord.TheVariants.{Mode, Timeout, Prepare, Recover}
+use Rattle.device.specs.declared.map.ReadoutWord.{ReadoutWord}
+use Rattle.device.specs.declared.map.ReadoutWord.TheVariants.{Module, Negative, Positive, GateErrors, WatchdogErrors, GateInputs, GateOutputs, Outputs}
+use Rattle.device.specs.declared.map.ReadoutWord.TheVariants.{GateStates, TagLow, TagHigh, Code, LoaderState, LoaderCounter, Count, Raw, Threshold}
+use Rattle.device.specs.declared.map.SettingWord.{SettingWord}
+use Rattle.device.specs.declared.map.SettingWord.TheVariants.{Mask, WatchdogTimeout, Selection}
+use Rattle.device.specs.declared.map.SharedWord.{SharedWord}
+use Rattle.device.specs.declared.map.SharedWord.TheVariants.{Control, Key, Enable, Reload}
 use Rattle.device.specs.Map.{backplane_map, control_map, counter_map, decode_of, event_map, status_map}
 
 -- ---- the map from the registers' side
 
-abbrev status_address : Status → ℕ
-status_address (Module k) = 0x0638 + k
-status_address (Negative k) = 0x0700 + k
-status_address (Positive k) = 0x0708 + k
-status_address GateErrors = 0x0710
-status_address (WatchdogErrors k) = 0x0711 + k
-status_address GateInputs = 0x0717
-status_address GateOutputs = 0x0718
-status_address Outputs = 0x0719
-status_address (GateStates k) = 0x071A + k
-status_address TagLow = 0x0900
-status_address TagHigh = 0x0901
-status_address Code = 0x0902
-status_address LoaderState = 0x0903
-status_address LoaderCounter = 0x0904
-status_address (Count k) = 0x1200 + k
-status_address (Raw k) = 0x1300 + k
-status_address (Threshold k) = 0x1800 + k
+abbrev readout_address : ReadoutWord → ℕ
+readout_address (Module k) = 0x0638 + k
+readout_address (Negative k) = 0x0700 + k
+readout_address (Positive k) = 0x0708 + k
+readout_address GateErrors = 0x0710
+readout_address (WatchdogErrors k) = 0x0711 + k
+readout_address GateInputs = 0x0717
+readout_address GateOutputs = 0x0718
+readout_address Outputs = 0x0719
+readout_address (GateStates k) = 0x071A + k
+readout_address TagLow = 0x0900
+readout_address TagHigh = 0x0901
+readout_address Code = 0x0902
+readout_address LoaderState = 0x0903
+readout_address LoaderCounter = 0x0904
+readout_address (Count k) = 0x1200 + k
+readout_address (Raw k) = 0x1300 + k
+readout_address (Threshold k) = 0x1800 + k
 
 -- 22 selection words of an output, "with a raster of 32 addresses"
-abbrev setting_address : Setting → ℕ
+abbrev setting_address : SettingWord → ℕ
 setting_address (Mask k) = 0x0630 + k
 setting_address WatchdogTimeout = 0x0800
-setting_address (WatchdogReset k) = 0x0810 + k
 setting_address (Selection o k) = 0x1100 + (32 * o + k)
 
+abbrev shared_address : SharedWord → ℕ
+shared_address Control = 0x0801
+shared_address Key = 0x0A00
+shared_address Enable = 0x0A01
+shared_address Reload = 0x0A02
+
+abbrev gate_address : GateWord → ℕ
+gate_address Mode = 0x0802
+gate_address (Timeout g) = 0x0804 + g
+gate_address Prepare = 0x0A03
+gate_address Recover = 0x0A04
+
 abbrev pub address_of : Register → ℕ
-address_of (Readout q) = status_address q
-address_of (Other q) = setting_address q
-address_of Control = 0x0801
-address_of Mode = 0x0802
-address_of (Timeout g) = 0x0804 + g
-address_of Key = 0x0A00
-address_of Enable = 0x0A01
-address_of Reload = 0x0A02
-address_of Prepare = 0x0A03
-address_of Recover = 0x0A04
+address_of (Readout q) = readout_address q
+address_of (Setting q) = setting_address q
+address_of (Shared q) = shared_address q
+address_of (Gates q) = gate_address q
+address_of (Watchdogs k) = 0x0810 + k
 address_of (Input n) = 0x1000 + n
 address_of (Group k) = 0x1600 + k
 address_of (Word i) = 0x8000 + i
 
--- the numbers that the map gives are those of its blocks
+-- the numbers that the map gives are those of its blocks: of the registers that a write can change
 
-abbrev pub InBlock : Setting → Type 0
+abbrev pub InBlock : SettingWord → Type 0
 InBlock (Mask k) = k < 6
-InBlock (WatchdogReset k) = k < 4
 InBlock (Selection o k) = (o < 6) × (k < 22)
-InBlock WatchdogTimeout = Unit
+InBlock q = Unit
+
+abbrev pub InGates : GateWord → Type 0
+InGates (Timeout g) = g < 12
+InGates q = Unit
 
 abbrev pub InMap : Register → Type 0
-InMap (Other r) = InBlock r
-InMap (Timeout g) = g < 12
+InMap (Setting q) = InBlock q
+InMap (Gates q) = InGates q
+InMap (Watchdogs k) = k < 4
 InMap (Input n) = n < 128
 InMap (Group k) = k < 32
 InMap (Word i) = i < 16384
@@ -115,9 +129,9 @@ one_address a b full e = by (decode_of a) refl
     by (Some r) p = sym (placed_as a r p).1 ∙ (placed_as b r (sym e ∙ p)).1
 
 -- 0x0A02 and no other
-pub decode_reload : decode_of 0x0A02 ≡ Some Reload
+pub decode_reload : decode_of 0x0A02 ≡ Some (Shared Reload)
 unfolding decode_of event_map
 decode_reload = refl
 
-pub reload_at : (a : ℕ) → decode_of a ≡ Some Reload → a ≡ 0x0A02
-reload_at a e = sym (placed_as a Reload e).1
+pub reload_at : (a : ℕ) → decode_of a ≡ Some (Shared Reload) → a ≡ 0x0A02
+reload_at a e = sym (placed_as a (Shared Reload) e).1

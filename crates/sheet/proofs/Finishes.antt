@@ -17,7 +17,8 @@ use Rattle.std.proofs.lemmas.Bool.{and_parts}
 use Rattle.loader.specs.declared.loader.Reload.{Reload as Reloading}
 use Rattle.loader.specs.declared.loader.Request.{Request}
 use Rattle.loader.specs.Loader.{Queue, dropped, is_empty, loader_step, oldest, pushed, queue_step, request0, request_for}
-use Rattle.device.specs.declared.map.Register.TheVariants.{Reload}
+use Rattle.device.specs.declared.map.Register.TheVariants.{Shared}
+use Rattle.device.specs.declared.map.SharedWord.TheVariants.{Reload}
 use Rattle.device.specs.declared.state.Common.{Common}
 use Rattle.causes.specs.Causes.{is_done}
 use Rattle.registers.specs.Calls.{Call, tick, write, tag, accepted_ticks, after, called, from, step, tick_one}
@@ -26,9 +27,9 @@ use Rattle.device.specs.State.{Machine, power_up}
 use Rattle.tagging.specs.Tag.{command_of, commanded, events_on, right_key, tag_of, tag_request}
 use Rattle.ticking.specs.Tick.{common_tick, tick_of}
 use Rattle.lines.specs.Lines.{bad_levels}
-use Rattle.writing.specs.Write.{control_write, dataset_in, enable_write, group_in, key_write, reload_answer, reload_write, request_answer, requested, triggers, with_reload, write_at}
+use Rattle.writing.specs.Write.{control_write, dataset_in, enable_write, group_in, key_write, reload_answer, reload_write, request_answer, requested, shared_write, triggers, with_reload, write_at}
 use Rattle.registers.proofs.Keeping.{Change, Keeps, Untimed, after_keeps, asked, called_keeps, changed, step_keeps, timed, written}
-use Rattle.registers.proofs.Whole.{Whole, full, step_called}
+use Rattle.registers.proofs.Whole.{WholeMemory, full, step_called}
 use Rattle.sheet.specs.Reachable.{CommonInRange, LoaderInRange}
 use Rattle.sheet.specs.Requests.{Stand, Stands, finished, loading, made_by, past, queued, request_made, stand_after, stand_step, stand_tick, ticks_at_work, ticks_left, waits, works}
 use Rattle.sheet.proofs.Addresses.{decode_reload}
@@ -136,8 +137,8 @@ tag_still t cm =
     (λ e. rw e (record { loader = refl; queue = same }))
 
 still_changed : (m : Machine) (x : Change) → Still m.state.common (changed m x).state.common
-unfolding write_at control_write key_write enable_write
-still_changed m (written Reload w) = reload_still w m.state.common
+unfolding write_at shared_write control_write key_write enable_write
+still_changed m (written (Shared Reload) w) = reload_still w m.state.common
 still_changed m (asked t) = tag_still t m.state.common
 still_changed m x = record { loader = refl; queue = same }
 
@@ -177,7 +178,7 @@ due_tick cm r s n d = record {
   left = unfold common_tick in (left_tick cm r s d.range.loader d.stands ∙ ap (λ (k : ℕ). k - 1) d.left);
 }
 
-due_step : (m : Machine) → Whole m → (x : Call) (r : Request) (s : Stand) (n : ℕ) → Due m.state.common r s n →
+due_step : (m : Machine) → WholeMemory m.memory → (x : Call) (r : Request) (s : Stand) (n : ℕ) → Due m.state.common r s n →
     Due (step m x).state.common r (stand_step m x s) (n - tick_one x)
 unfolding called tick_of
 due_step m f (tick inputs gates) r s n d =
@@ -186,7 +187,7 @@ due_step m f (tick inputs gates) r s n d =
     (λ b. rw (b, step_called m f (tick inputs gates), b) (due_tick m.state.common r s n d))
 due_step m f x r s n d = due_past r s n m d x refl
 
-due_from : (m : Machine) → Whole m → (l : List Call) (r : Request) (s : Stand) (n : ℕ) → Due m.state.common r s n →
+due_from : (m : Machine) → WholeMemory m.memory → (l : List Call) (r : Request) (s : Stand) (n : ℕ) → Due m.state.common r s n →
     Due (from m l).state.common r (stand_after m l s) (n - accepted_ticks l)
 unfolding from stand_after accepted_ticks
 due_from m f [] r s n d = rw (sub-zero n) d
@@ -217,7 +218,7 @@ made_by_lem : (cm : Common) (w : ℕ) (asks : Bool) (r : Request) → made_by cm
 made_by_lem cm w asks r e = (grind (arith, common_steps), grind (arith, common_steps), grind (arith, common_steps))
 
 reload_made : (w : ℕ) (cm : Common) → triggers w cm ≡ true → is_done (request_answer cm.queue (dataset_in w)) ≡ true →
-    reload_write w cm ≡ with_reload (kept Reload w) (requested w cm)
+    reload_write w cm ≡ with_reload (kept (Shared Reload) w) (requested w cm)
 unfolding reload_write reload_answer
 reload_made w cm t e = rw (t, e)
 
@@ -237,18 +238,18 @@ due_request cm w r cm' h e same-request q l =
 abbrev DueMade : Machine → Request → Machine → Type 0
 DueMade m r m' = Due m'.state.common r (waits (ahead m)) (work m + 129 * (ahead m + 1))
 
-made_write : (m : Machine) (a w : ℕ) (r : Request) → Whole m → CommonInRange m.state.common → request_made m (write a w) ≡ Some r →
+made_write : (m : Machine) (a w : ℕ) (r : Request) → WholeMemory m.memory → CommonInRange m.state.common → request_made m (write a w) ≡ Some r →
     DueMade m r (step m (write a w))
-unfolding request_made called write_at
+unfolding request_made called write_at shared_write
 made_write m a w r f h e =
     let cm = m.state.common in
     let b = made_by_lem cm w (eqb a 0x0A02 && triggers w cm) r e in
     let p : a ≡ 0x0A02 = eqb-true a 0x0A02 (and_parts _ _ b.0).0 in
     let made = reload_made w cm (and_parts (eqb a 0x0A02) _ b.0).1 b.1 in
     rw (step_called m f (write a w), p, decode_reload, made)
-    (due_request cm w r (with_reload (kept Reload w) (requested w cm)) (rw made at (reload_in w cm h)) b.1 b.2 refl (unfold requested in refl))
+    (due_request cm w r (with_reload (kept (Shared Reload) w) (requested w cm)) (rw made at (reload_in w cm h)) b.1 b.2 refl (unfold requested in refl))
 
-made_tag : (m : Machine) (t : ℕ) (r : Request) → Whole m → CommonInRange m.state.common → request_made m (tag t) ≡ Some r →
+made_tag : (m : Machine) (t : ℕ) (r : Request) → WholeMemory m.memory → CommonInRange m.state.common → request_made m (tag t) ≡ Some r →
     DueMade m r (step m (tag t))
 unfolding request_made called
 made_tag m t r f h e =
@@ -263,7 +264,7 @@ made_tag m t r f h e =
     (due_request cm t r (tag_of m.state t).common (called_keeps range_keeps m h (tag t) tt) b.1 b.2 (ap (λ (x : Common). x.queue) made)
     (ap (λ (x : Common). x.loader) made ∙ (unfold requested in refl)))
 
-due_made : (m : Machine) (x : Call) (r : Request) → Whole m → CommonInRange m.state.common → request_made m x ≡ Some r → DueMade m r (step m x)
+due_made : (m : Machine) (x : Call) (r : Request) → WholeMemory m.memory → CommonInRange m.state.common → request_made m x ≡ Some r → DueMade m r (step m x)
 unfolding request_made
 due_made m (write a w) r f h e = made_write m a w r f h e
 due_made m (tag t) r f h e = made_tag m t r f h e

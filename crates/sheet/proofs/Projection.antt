@@ -24,6 +24,7 @@ use Rattle.loader.specs.Loader.{group_at}
 use Rattle.loader.specs.Memory.{place_of, word_at}
 use Rattle.gates.proofs.Gates.{gate_bit, gate_bit_past}
 use Rattle.registers.specs.Calls.{machine0}
+use Rattle.registers.proofs.Whole.{WholeMemory}
 use Rattle.device.specs.State.{Machine, memory0, power_up}
 use Rattle.sheet.specs.Lines.{Lines}
 use Rattle.sheet.specs.Sheet.{Sheet, sheet0, sheet_of}
@@ -127,12 +128,12 @@ counter_tick_own S control before now phases was is x fit =
 -- ---- the memory
 
 -- own word 4 d + j is word j of dataset d, also where there is no such dataset
-pub own_words_at : (c : ℕ) → c < 128 → (memory : List ℕ) → length memory ≡ 16384 → (d j : ℕ) → j < 4 →
+pub own_words_at : (c : ℕ) → c < 128 → (memory : List ℕ) → WholeMemory memory → (d j : ℕ) → j < 4 →
     word_at (own_words c memory) (4 * d + j) ≡ word_at memory (place_of d c + j)
 unfolding own_words word_at own_place
 own_words_at c c< memory size d j j< = grind (arith, get_d_tabulate, get_d_past, get_or-eq_default)
 
-pub own_words_first : (c : ℕ) → c < 128 → (memory : List ℕ) → length memory ≡ 16384 → (d : ℕ) →
+pub own_words_first : (c : ℕ) → c < 128 → (memory : List ℕ) → WholeMemory memory → (d : ℕ) →
     word_at (own_words c memory) (4 * d) ≡ word_at memory (place_of d c)
 own_words_first c c< memory size d = rw (add-zero (4 * d), add-zero (place_of d c)) at (own_words_at c c< memory size d 0 (omega arith))
 

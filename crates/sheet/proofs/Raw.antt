@@ -5,8 +5,7 @@ use native.Mathlib.Omega.{arith}
 use mathlib.Core.Bool.{Bool, true, false}
 use mathlib.Core.List.{List, [], ◌∷◌}
 use mathlib.Core.Path.{◌≡◌, refl, sym, ap, ◌∙◌}
-use borrow.Author.Tests.{eq-eqb, lt-ltb}
-use lib.ListN.{length}
+use borrow.Author.Tests.{lt-ltb}
 use Rattle.std.proofs.lemmas.Bool.Decides.{nat_tests}
 use Rattle.std.proofs.Common.{Ok, Some}
 use Rattle.words.specs.Word.{bit, bit_of}
@@ -16,27 +15,28 @@ use Rattle.lists.proofs.Tables.{get_or_each, get_d_tabulate}
 use Rattle.lines.specs.Lines.{bad_levels, input_rise, rise_of, rises_of}
 use Rattle.lines.specs.Raw.{count_rises, raw_at, raw_step}
 use Rattle.device.specs.declared.map.Register.TheVariants.{Readout}
-use Rattle.device.specs.declared.map.Status.TheVariants.{Raw}
+use Rattle.device.specs.declared.map.ReadoutWord.TheVariants.{Raw}
 use Rattle.device.specs.declared.state.Crate.{Crate}
 use Rattle.registers.specs.Calls.{Call, tick, after, called, from, machine0, step}
 use Rattle.device.specs.Map.{counter_map, decode_of}
-use Rattle.reading.specs.Read.{low_first, read_of, status_word, word_in}
+use Rattle.reading.specs.Read.{low_first, read_of, readout_word, word_in}
 use Rattle.device.specs.State.{Machine, power_up, with_state}
-use Rattle.ticking.specs.Tick.{rest_tick, tick_of}
-use Rattle.writing.specs.Write.{rest_write, write_at}
-use Rattle.registers.proofs.Whole.{full, step_called}
+use Rattle.ticking.specs.Tick.{status_tick, tick_of}
+use Rattle.writing.specs.Write.{write_at}
+use Rattle.registers.proofs.Whole.{WholeMemory, full, read_whole, step_called}
 use Rattle.sheet.specs.Raw.{levels_of, raw_count, rises_in}
-use Rattle.registers.proofs.Keeping.{Change, Keeps, Untimed, changed, step_keeps, timed}
+use Rattle.registers.proofs.Keeping.{Change, Keeps, Untimed, changed, step_keeps, timed, written}
 use Rattle.sheet.proofs.Sizes.{full_after, sized_start}
 
 -- ---- what leaves the raw counts, and the levels that the next rises are taken from
 
 abbrev Left : Crate → Machine → Type 0
-Left s m = (m.state.rest.rawcounts ≡ s.rest.rawcounts) × (m.state.levels ≡ s.levels)
+Left s m = (m.state.status.rawcounts ≡ s.status.rawcounts) × (m.state.levels ≡ s.levels)
 
 left_changed : (s : Crate) (m : Machine) → Left s m → (x : Change) → Left s (changed m x)
-unfolding write_at rest_write
-left_changed s m h x = grind arith
+unfolding write_at
+left_changed s m h (written r w) = grind arith
+left_changed s m h x = h
 
 left_keeps : (s : Crate) → Keeps Untimed (Left s)
 left_keeps s = record { change = left_changed s; tick = λ m h inputs gates c e. timed inputs gates c e; download = λ m h d words c e. h }
@@ -50,11 +50,11 @@ module _ (i : ℕ) (b : i < 54) where
   rise_is before now phases = bit_pack 64 _ i (omega arith) ∙ rw (lt-ltb i 54 b)
 
   raw_ticked : (s : Crate) (memory : List ℕ) (inputs gates : ℕ) →
-      raw_at (tick_of s memory inputs gates).rest.rawcounts i ≡ raw_step (input_rise s.levels inputs i) (raw_at s.rest.rawcounts i)
-  unfolding tick_of rest_tick count_rises
+      raw_at (tick_of s memory inputs gates).status.rawcounts i ≡ raw_step (input_rise s.levels inputs i) (raw_at s.status.rawcounts i)
+  unfolding tick_of status_tick count_rises
   raw_ticked s memory inputs gates =
-      get_or_each 54 0 _ s.rest.rawcounts i b
-      ∙ ap (λ (r : Bool). raw_step r (raw_at s.rest.rawcounts i)) (rise_is s.levels inputs s.common.phases)
+      get_or_each 54 0 _ s.status.rawcounts i b
+      ∙ ap (λ (r : Bool). raw_step r (raw_at s.status.rawcounts i)) (rise_is s.levels inputs s.common.phases)
 
 step_mod : (r : Bool) (n : ℕ) → raw_step r (n % 2 ^ 32) ≡ (n + bit_of r) % 2 ^ 32
 step_mod r n = grind (arith, nat_tests)
@@ -68,7 +68,7 @@ good_levels : (i inputs gates : ℕ) (l : List Call) → bad_levels inputs gates
 unfolding levels_of
 good_levels i inputs gates l e = rw e
 
-good_tick : (m : Machine) → length m.memory ≡ 16384 → (inputs gates : ℕ) → bad_levels inputs gates ≡ false →
+good_tick : (m : Machine) → WholeMemory m.memory → (inputs gates : ℕ) → bad_levels inputs gates ≡ false →
     step m (tick inputs gates) ≡ with_state m (tick_of m.state m.memory inputs gates)
 unfolding called
 good_tick m h inputs gates e = step_called m h (tick inputs gates) ∙ rw e
@@ -76,24 +76,24 @@ good_tick m h inputs gates e = step_called m h (tick inputs gates) ∙ rw e
 module _ (i : ℕ) (b : i < 54) where
   -- n rises so far
   abbrev Counts : Machine → ℕ → Type 0
-  Counts m n = raw_at m.state.rest.rawcounts i ≡ n % 2 ^ 32
+  Counts m n = raw_at m.state.status.rawcounts i ≡ n % 2 ^ 32
 
   abbrev total : Machine → ℕ → List Bool → ℕ
   total m n levels = (n + rises_in (bit m.state.levels i) levels) % 2 ^ 32
 
   -- and those of the list
   abbrev Adds : List Call → Type 0
-  Adds l = (m : Machine) (n : ℕ) → length m.memory ≡ 16384 → Counts m n → raw_at (from m l).state.rest.rawcounts i ≡ total m n (levels_of i l)
+  Adds l = (m : Machine) (n : ℕ) → WholeMemory m.memory → Counts m n → raw_at (from m l).state.status.rawcounts i ≡ total m n (levels_of i l)
 
-  past : (l : List Call) → Adds l → (m : Machine) (n : ℕ) → length m.memory ≡ 16384 → Counts m n →
-      (x : Call) → Untimed x → raw_at (from (step m x) l).state.rest.rawcounts i ≡ total m n (levels_of i l)
+  past : (l : List Call) → Adds l → (m : Machine) (n : ℕ) → WholeMemory m.memory → Counts m n →
+      (x : Call) → Untimed x → raw_at (from (step m x) l).state.status.rawcounts i ≡ total m n (levels_of i l)
   past l adds m n whole h x c =
       let left = step_keeps (left_keeps m.state) m (refl, refl) x c in
       adds (step m x) n (full m whole x) (ap (λ (rawcounts : List ℕ). raw_at rawcounts i) left.0 ∙ h)
       ∙ ap (λ (levels : ℕ). (n + rises_in (bit levels i) (levels_of i l)) % 2 ^ 32) left.1
 
-  accepted : (l : List Call) → Adds l → (m : Machine) (n : ℕ) → length m.memory ≡ 16384 → Counts m n → (inputs gates : ℕ) →
-      raw_at (from (with_state m (tick_of m.state m.memory inputs gates)) l).state.rest.rawcounts i ≡ total m n (bit inputs i ∷ levels_of i l)
+  accepted : (l : List Call) → Adds l → (m : Machine) (n : ℕ) → WholeMemory m.memory → Counts m n → (inputs gates : ℕ) →
+      raw_at (from (with_state m (tick_of m.state m.memory inputs gates)) l).state.status.rawcounts i ≡ total m n (bit inputs i ∷ levels_of i l)
   unfolding tick_of rises_in
   accepted l adds m n whole h inputs gates =
       let r : Bool = input_rise m.state.levels inputs i in
@@ -101,13 +101,13 @@ module _ (i : ℕ) (b : i < 54) where
       (raw_ticked i b m.state m.memory inputs gates ∙ ap (raw_step r) h ∙ step_mod r n)
       ∙ ap (λ (k : ℕ). k % 2 ^ 32) (add_assoc n (bit_of r) (rises_in (bit inputs i) (levels_of i l)))
 
-  ticked : (l : List Call) → Adds l → (m : Machine) (n : ℕ) → length m.memory ≡ 16384 → Counts m n → (inputs gates : ℕ) →
-      raw_at (from (step m (tick inputs gates)) l).state.rest.rawcounts i ≡ total m n (levels_of i (tick inputs gates ∷ l))
+  ticked : (l : List Call) → Adds l → (m : Machine) (n : ℕ) → WholeMemory m.memory → Counts m n → (inputs gates : ℕ) →
+      raw_at (from (step m (tick inputs gates)) l).state.status.rawcounts i ≡ total m n (levels_of i (tick inputs gates ∷ l))
   ticked l adds m n whole h inputs gates =
       cases (bad_levels inputs gates)
       (λ e. past l adds m n whole h (tick inputs gates) (rw e) ∙ ap (total m n) (sym (bad_levels_lem i inputs gates l e)))
       (λ e.
-      ap (λ (k : Machine). raw_at (from k l).state.rest.rawcounts i) (good_tick m whole inputs gates e)
+      ap (λ (k : Machine). raw_at (from k l).state.status.rawcounts i) (good_tick m whole inputs gates e)
       ∙ accepted l adds m n whole h inputs gates
       ∙ ap (total m n) (sym (good_levels i inputs gates l e)))
 
@@ -126,7 +126,7 @@ module _ (i : ℕ) (b : i < 54) where
   low_start = bit_zero i
 
   -- the number of rises of the input over the accepted ticks, modulo 2^32
-  pub raw_counts : (l : List Call) → raw_at (after l).state.rest.rawcounts i ≡ raw_count i l
+  pub raw_counts : (l : List Call) → raw_at (after l).state.status.rawcounts i ≡ raw_count i l
   unfolding after
   raw_counts l =
       raw_from l machine0 0 sized_start.memory raw_start
@@ -139,10 +139,10 @@ decode_raw : (j : ℕ) → j < 108 → decode_of (0x1300 + j) ≡ Some (Readout 
 unfolding decode_of counter_map
 decode_raw j h = grind (arith, nat_tests)
 
-read_raw : (m : Machine) → length m.memory ≡ 16384 → (j : ℕ) → j < 108 →
-    read_of m (0x1300 + j) ≡ Ok (low_first j (raw_at m.state.rest.rawcounts (j / 2)))
-unfolding read_of word_in status_word
-read_raw m whole j h = rw (eq-eqb (length m.memory) 16384 whole, decode_raw j h)
+read_raw : (m : Machine) → WholeMemory m.memory → (j : ℕ) → j < 108 →
+    read_of m (0x1300 + j) ≡ Ok (low_first j (raw_at m.state.status.rawcounts (j / 2)))
+unfolding word_in readout_word
+read_raw m whole j h = read_whole m whole (0x1300 + j) ∙ rw (decode_raw j h)
 
 pub raw_reads : (j : ℕ) → j < 108 → (l : List Call) → read_of (after l) (0x1300 + j) ≡ Ok (low_first j (raw_count (j / 2) l))
 raw_reads j h l =

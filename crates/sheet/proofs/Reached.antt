@@ -25,25 +25,30 @@ use Rattle.gates.specs.Gate.{each_gate, gate0, gate_at, gate_step, with_mode, wi
 use Rattle.lines.specs.Lines.{bad_levels, phase_limit}
 use Rattle.lines.specs.Raw.{count_rises, raw_at}
 use Rattle.loader.specs.Loader.{request_for}
-use Rattle.loader.specs.Memory.{loaded, memory_words, replaced, word_at}
+use Rattle.loader.specs.Memory.{loaded, replaced, word_at}
 use Rattle.watchdogs.specs.Watchdog.{reset_in, reset_watchdogs, step_watchdogs, watchdog0, watchdog_at, watchdog_top, with_reset}
 use Rattle.device.specs.declared.map.Register.{Register}
-use Rattle.device.specs.declared.map.Register.TheVariants.{Other, Control, Mode, Timeout, Key, Enable, Reload, Prepare, Recover, Input, Group, Word}
-use Rattle.device.specs.declared.map.Setting.{Setting}
-use Rattle.device.specs.declared.map.Setting.TheVariants.{Mask, Selection}
+use Rattle.device.specs.declared.map.Register.TheVariants.{Setting, Shared, Gates, Watchdogs, Input, Group, Word}
+use Rattle.device.specs.declared.map.GateWord.{GateWord}
+use Rattle.device.specs.declared.map.GateWord.TheVariants.{Mode, Timeout, Prepare, Recover}
+use Rattle.device.specs.declared.map.SettingWord.{SettingWord}
+use Rattle.device.specs.declared.map.SettingWord.TheVariants.{Mask, Selection}
+use Rattle.device.specs.declared.map.SharedWord.{SharedWord}
+use Rattle.device.specs.declared.map.SharedWord.TheVariants.{Control, Key, Enable, Reload}
 use Rattle.device.specs.declared.state.Common.{Common}
-use Rattle.device.specs.declared.state.Rest.{Rest}
+use Rattle.device.specs.declared.state.Settings.{Settings}
+use Rattle.device.specs.declared.state.Status.{Status}
 use Rattle.causes.specs.Causes.{is_done}
 use Rattle.registers.specs.Calls.{Call, download, after, machine0}
 use Rattle.device.specs.Map.{kept, used_bits}
-use Rattle.device.specs.State.{Machine, common0, memory0, power_up, with_groups, with_memory, with_registers, with_rest, with_state}
+use Rattle.device.specs.State.{Machine, common0, memory0, power_up, with_groups, with_memory, with_registers, with_settings, with_state, with_watchdogs}
 use Rattle.interlocks.specs.Interlock.{selected}
 use Rattle.tagging.specs.Tag.{tag_request}
-use Rattle.ticking.specs.Tick.{common_tick, rest_tick, tick_of}
-use Rattle.writing.specs.Write.{control_write, dataset_in, enable_write, group_in, key_write, on_common, on_counters, on_gates, reload_answer, reload_write, request_answer, requested, reset_by, rest_write, with_reload, with_selected, write_at}
+use Rattle.ticking.specs.Tick.{common_tick, status_tick, tick_of}
+use Rattle.writing.specs.Write.{control_write, dataset_in, enable_write, group_in, key_write, on_common, on_counters, on_gates, reload_answer, reload_write, request_answer, requested, reset_by, gates_write, settings_write, shared_write, with_reload, with_selected, write_at}
 use Rattle.registers.proofs.Keeping.{Any, Change, Keeps, asked, changed, cleared_all, list_keeps, noted, prepared, recovered, written}
-use Rattle.registers.proofs.Whole.{accepted, length_replaced}
-use Rattle.sheet.specs.Reachable.{CommonInRange, CounterInRange, GateInRange, OfWords, Reached, RestInRange}
+use Rattle.registers.proofs.Whole.{WholeMemory, accepted, length_replaced}
+use Rattle.sheet.specs.Reachable.{CommonInRange, CounterInRange, GateInRange, OfWords, Reached, SettingsInRange, StatusInRange}
 use Rattle.sheet.proofs.InRange.{cleared_in, counter0_in, gate_in_lem, input_in, load_all, load_in, loader_in, phases_in, pushed_in, queue_in, request0_in, taken, tick_in, watchdog_in}
 
 -- the lowest n bits of a word are below 2 ^ n: no unused bit is stored
@@ -66,7 +71,7 @@ gates_in_lem f kept w gates h =
     all_each gate0 (λ i. GateInRange) (λ i. gate0_in) 12 _ gates (λ i g. kept (bit w i) g) h
 
 timeout_in : (gates : List Gate) → ((g : ℕ) → GateInRange (gate_at gates g)) → (k w : ℕ) →
-    (g : ℕ) → GateInRange (gate_at (set gates k (with_timeout (kept (Timeout k) w) (gate_at gates k))) g)
+    (g : ℕ) → GateInRange (gate_at (set gates k (with_timeout (kept (Gates (Timeout k)) w) (gate_at gates k))) g)
 unfolding gate_at
 timeout_in gates h k w = grind (arith, common_steps, kept_lt)
 
@@ -112,8 +117,8 @@ all_held control rises was is xs e = all_tabulate counter0 (λ i. AtZero) (λ i.
 
 -- ---- what all counters share, and what none sees
 
-registers_in : (cm : Common) → CommonInRange cm → (control key enable reload : ℕ) → control < 2 ^ used_bits Control → key < 2 ^ used_bits Key →
-    enable < 2 ^ used_bits Enable → reload < 2 ^ used_bits Reload → CommonInRange (with_registers cm control key enable reload)
+registers_in : (cm : Common) → CommonInRange cm → (control key enable reload : ℕ) → control < 2 ^ used_bits (Shared Control) → key < 2 ^ used_bits (Shared Key) →
+    enable < 2 ^ used_bits (Shared Enable) → reload < 2 ^ used_bits (Shared Reload) → CommonInRange (with_registers cm control key enable reload)
 registers_in cm h control key enable reload p q r s = assumption
 
 requested_in : (w : ℕ) (cm : Common) → CommonInRange cm → is_done (request_answer cm.queue (dataset_in w)) ≡ true → CommonInRange (requested w cm)
@@ -123,24 +128,24 @@ requested_in w cm h e =
     let q = pushed_in cm.queue h.queue (request_for (dataset_in w) (group_in w)) (record { dataset = a.0; group = field_lt w 8 4 }) a.1 in
     assumption
 
-stored_reload : (w : ℕ) (cm : Common) → CommonInRange cm → CommonInRange (with_reload (kept Reload w) cm)
-stored_reload w cm h = registers_in cm h _ _ _ _ h.control h.key h.enable (kept_lt Reload w)
+stored_reload : (w : ℕ) (cm : Common) → CommonInRange cm → CommonInRange (with_reload (kept (Shared Reload) w) cm)
+stored_reload w cm h = registers_in cm h _ _ _ _ h.control h.key h.enable (kept_lt (Shared Reload) w)
 
 pub reload_in : (w : ℕ) (cm : Common) → CommonInRange cm → CommonInRange (reload_write w cm)
 unfolding reload_write reload_answer
 reload_in w cm h = grind (arith, stored_reload, requested_in)
 
-pub control_in : (w : ℕ) (cm : Common) → CommonInRange cm → CommonInRange (control_write w cm)
+control_in : (w : ℕ) (cm : Common) → CommonInRange cm → CommonInRange (control_write w cm)
 unfolding control_write
-control_in w cm h = registers_in cm h _ _ _ _ (kept_lt Control w) h.key h.enable h.reload
+control_in w cm h = registers_in cm h _ _ _ _ (kept_lt (Shared Control) w) h.key h.enable h.reload
 
-pub key_in : (w : ℕ) (cm : Common) → CommonInRange cm → CommonInRange (key_write w cm)
+key_in : (w : ℕ) (cm : Common) → CommonInRange cm → CommonInRange (key_write w cm)
 unfolding key_write
-key_in w cm h = registers_in cm h _ _ _ _ h.control (kept_lt Key w) h.enable h.reload
+key_in w cm h = registers_in cm h _ _ _ _ h.control (kept_lt (Shared Key) w) h.enable h.reload
 
-pub enable_in : (w : ℕ) (cm : Common) → CommonInRange cm → CommonInRange (enable_write w cm)
+enable_in : (w : ℕ) (cm : Common) → CommonInRange cm → CommonInRange (enable_write w cm)
 unfolding enable_write
-enable_in w cm h = registers_in cm h _ _ _ _ h.control h.key (kept_lt Enable w) h.reload
+enable_in w cm h = registers_in cm h _ _ _ _ h.control h.key (kept_lt (Shared Enable) w) h.reload
 
 pub common_tick_in : (cm : Common) → CommonInRange cm → CommonInRange (common_tick cm)
 unfolding common_tick
@@ -162,25 +167,48 @@ reset_in_lem : (b : Bool) (w : Watchdog) → w.value ≤ watchdog_top → (with_
 unfolding with_reset
 reset_in_lem b w h = let z : 0 ≤ watchdog_top = omega arith in both (λ (x : Watchdog). x.value ≤ watchdog_top) (w.reset && not b) z h
 
-selections_in : (xss : List (List ℕ)) (o k w : ℕ) → ((p q : ℕ) → selected xss p q < 2 ^ used_bits (Other (Selection p q))) →
-    (p q : ℕ) → selected (with_selected xss o k (kept (Other (Selection o k)) w)) p q < 2 ^ used_bits (Other (Selection p q))
+resets_in : (k w : ℕ) (ws : List Watchdog) → ((i : ℕ) → (watchdog_at ws i).value ≤ watchdog_top) →
+    (i : ℕ) → (watchdog_at (reset_watchdogs k w ws) i).value ≤ watchdog_top
+unfolding reset_watchdogs reset_in
+resets_in k w ws h = grind (arith, watchdogs_in, reset_in_lem)
+
+selections_in : (xss : List (List ℕ)) (o k w : ℕ) → ((p q : ℕ) → selected xss p q < 2 ^ used_bits (Setting (Selection p q))) →
+    (p q : ℕ) → selected (with_selected xss o k (kept (Setting (Selection o k)) w)) p q < 2 ^ used_bits (Setting (Selection p q))
 selections_in xss o k w h =
-    all_set [] (λ p words. (q : ℕ) → get_or words q 0 < 2 ^ used_bits (Other (Selection p q))) (λ p q. pow_pos (used_bits (Other (Selection p q)))) xss o _
-    (all_set 0 (λ q n. n < 2 ^ used_bits (Other (Selection o q))) (λ q. pow_pos (used_bits (Other (Selection o q)))) (get_or xss o []) k _
-    (kept_lt (Other (Selection o k)) w) (h o))
+    all_set [] (λ p words. (q : ℕ) → get_or words q 0 < 2 ^ used_bits (Setting (Selection p q))) (λ p q. pow_pos (used_bits (Setting (Selection p q)))) xss o _
+    (all_set 0 (λ q n. n < 2 ^ used_bits (Setting (Selection o q))) (λ q. pow_pos (used_bits (Setting (Selection o q)))) (get_or xss o []) k _
+    (kept_lt (Setting (Selection o k)) w) (h o))
     h
 
-rest_in : (r : Setting) (w : ℕ) (rest : Rest) → RestInRange rest → RestInRange (rest_write r w rest)
-unfolding rest_write reset_watchdogs reset_in
-rest_in r w rest h = grind (arith, common_steps, kept_lt, watchdogs_in, reset_in_lem, selections_in)
+settings_in : (q : SettingWord) (w : ℕ) (s : Settings) → SettingsInRange s → SettingsInRange (settings_write q w s)
+unfolding settings_write
+settings_in q w s h = grind (arith, common_steps, kept_lt, selections_in)
+
+shared_in : (q : SharedWord) (w : ℕ) (cm : Common) → CommonInRange cm → CommonInRange (shared_write q w cm)
+unfolding shared_write
+shared_in Control w cm h = control_in w cm h
+shared_in Key w cm h = key_in w cm h
+shared_in Enable w cm h = enable_in w cm h
+shared_in Reload w cm h = reload_in w cm h
+
+gates_in : (q : GateWord) (w : ℕ) (gates : List Gate) → ((g : ℕ) → GateInRange (gate_at gates g)) → (g : ℕ) → GateInRange (gate_at (gates_write q w gates) g)
+unfolding gates_write
+gates_in Mode w gates h = gates_in_lem with_mode (λ b g h. assumption) w gates h
+gates_in (Timeout k) w gates h = timeout_in gates h k w
+gates_in Prepare w gates h = gates_in_lem with_prepare (λ b g h. assumption) w gates h
+gates_in Recover w gates h = gates_in_lem with_recover (λ b g h. assumption) w gates h
 
 -- ---- calls: one law for each change of the machine
 
 reached_common : (m : Machine) → Reached m → (x : Common) → CommonInRange x → x.control ≡ m.state.common.control → Reached (on_common m x)
 reached_common m h x p e = grind arith
 
-reached_rest : (m : Machine) → Reached m → (x : Rest) → RestInRange x → Reached (with_state m (with_rest m.state x))
-reached_rest m h x p = assumption
+reached_settings : (m : Machine) → Reached m → (x : Settings) → SettingsInRange x → Reached (with_state m (with_settings m.state x))
+reached_settings m h x p = assumption
+
+reached_watchdogs : (m : Machine) → Reached m → (x : List Watchdog) → ((i : ℕ) → (watchdog_at x i).value ≤ watchdog_top) →
+    Reached (with_state m (with_watchdogs m.state x))
+reached_watchdogs m h x p = assumption
 
 reached_gates : (m : Machine) → Reached m → (x : List Gate) → ((g : ℕ) → GateInRange (gate_at x g)) → Reached (on_gates m x)
 reached_gates m h x p = assumption
@@ -192,7 +220,7 @@ reached_counters m h x p z = assumption
 reached_groups : (m : Machine) → Reached m → (x : List ℕ) → ((k : ℕ) → get_or x k 0 < 2 ^ 16) → Reached (with_state m (with_groups m.state x))
 reached_groups m h x p = assumption
 
-reached_memory : (m : Machine) → Reached m → (x : List ℕ) → length x ≡ memory_words → ((a : ℕ) → word_at x a < 2 ^ 16) → Reached (with_memory m x)
+reached_memory : (m : Machine) → Reached m → (x : List ℕ) → WholeMemory x → ((a : ℕ) → word_at x a < 2 ^ 16) → Reached (with_memory m x)
 reached_memory m h x e p = assumption
 
 -- command 0x4 and RESET
@@ -201,10 +229,14 @@ reached_clear m h =
     reached_counters m h _ (clear_all CounterInRange counter0_in m.state.counters cleared_in h.counters)
     (λ e. all_cleared m.state.counters)
 
-reached_control : (m : Machine) → Reached m → (w : ℕ) →
-    Reached (on_common (on_counters m (reset_by w m.state.counters)) (control_write w m.state.common))
-unfolding reset_by
-reached_control m h w = record {
+pub control_stays : (w : ℕ) (cm : Common) → (reload_write w cm).control ≡ cm.control
+unfolding reload_write requested
+control_stays w cm = grind arith
+
+-- RESET is set exactly where the counts were cleared
+reached_shared : (m : Machine) → Reached m → (q : SharedWord) (w : ℕ) → Reached (write_at m (Shared q) w)
+unfolding write_at shared_write reset_by
+reached_shared m h Control w = record {
   memory = h.memory;
   words = h.words;
   counters =
@@ -213,11 +245,16 @@ reached_control m h w = record {
       h.counters;
   groups = h.groups;
   gates = h.gates;
+  watchdogs = h.watchdogs;
   levels = h.levels;
   common = control_in w m.state.common h.common;
-  rest = h.rest;
+  settings = h.settings;
+  status = h.status;
   reset = λ e. rw (sym (control_kept w m.state.common) ∙ e) (all_cleared m.state.counters);
 }
+reached_shared m h Key w = reached_common m h _ (key_in w m.state.common h.common) (unfold key_write in refl)
+reached_shared m h Enable w = reached_common m h _ (enable_in w m.state.common h.common) (unfold enable_write in refl)
+reached_shared m h Reload w = reached_common m h _ (reload_in w m.state.common h.common) (control_stays w m.state.common)
 
 reached_input : (m : Machine) → Reached m → (n w : ℕ) → Reached (write_at m (Input n) w)
 unfolding write_at
@@ -225,10 +262,6 @@ reached_input m h n w =
     reached_counters m h _
     (patch_all CounterInRange counter0_in m.state.counters n _ (input_in _ (h.counters n) _ (kept_lt (Input n) w)) h.counters)
     (λ e. patch_all AtZero refl m.state.counters n _ (h.reset e n) (h.reset e))
-
-pub control_stays : (w : ℕ) (cm : Common) → (reload_write w cm).control ≡ cm.control
-unfolding reload_write requested
-control_stays w cm = grind arith
 
 -- ---- ticks
 
@@ -241,10 +274,10 @@ unfolding count_rises
 rawcounts_in rises rawcounts h =
     all_each 0 (λ i n. n < 2 ^ 32) (λ i. lit< tt) 54 _ rawcounts (λ i n l. both (λ (k : ℕ). k < 2 ^ 32) (bit rises i) (mod-lt (n + 1) (pow_pos 32)) l) h
 
-rest_tick_in : (rest : Rest) (cm : Common) → RestInRange rest → CommonInRange cm → (rawcounts : List ℕ) → ((i : ℕ) → raw_at rawcounts i < 2 ^ 32) →
-    (rises gates : ℕ) → gates < 2 ^ 12 → RestInRange (rest_tick rest rawcounts rises gates cm.loader)
-unfolding rest_tick step_watchdogs
-rest_tick_in rest cm h k rawcounts r rises gates g = grind (arith, watchdogs_in, watchdog_in)
+status_in : (s : Status) → StatusInRange s → (cm : Common) → CommonInRange cm → (rises gates : ℕ) → gates < 2 ^ 12 →
+    StatusInRange (status_tick rises gates cm.loader s)
+unfolding status_tick
+status_in s h cm k rises gates g = grind (arith, rawcounts_in)
 
 reached_tick : (m : Machine) → Reached m → (inputs gates : ℕ) → bad_levels inputs gates ≡ false → Reached (with_state m (tick_of m.state m.memory inputs gates))
 unfolding tick_of
@@ -260,9 +293,9 @@ reached_tick m h inputs gates good =
       gates = gates_in_lem gate_step gate_in_lem gates m.state.gates h.gates;
       levels = g.0;
       common = common_tick_in m.state.common h.common;
-      rest =
-          rest_tick_in m.state.rest m.state.common h.rest h.common _ (rawcounts_in _ m.state.rest.rawcounts h.rest.rawcounts) _ gates
-          g.1;
+      watchdogs = unfold step_watchdogs in (watchdogs_in _ (λ i x. watchdog_in _ _ x) m.state.watchdogs h.watchdogs);
+      settings = h.settings;
+      status = status_in m.state.status h.status m.state.common h.common _ gates g.1;
       reset = λ e.
           load_all AtZero refl m.state.common.loader m.state.groups m.memory _ (loaded_zero m.memory)
           (all_held m.state.common.control _ _ _ m.state.counters (unfold common_tick in e));
@@ -280,7 +313,7 @@ tag_control t cm = cases (is_done (request_answer cm.queue (dataset_in t))) (λ 
 
 -- ---- downloads
 
-replaced_in : (memory : List ℕ) (d : ℕ) (words : List ℕ) → length memory ≡ 16384 → length words ≡ 512 → d < 32 →
+replaced_in : (memory : List ℕ) (d : ℕ) (words : List ℕ) → WholeMemory memory → length words ≡ 512 → d < 32 →
     ((a : ℕ) → word_at memory a < 2 ^ 16) → ((i : ℕ) → get_or words i 0 < 2 ^ 16) → (a : ℕ) → word_at (replaced memory (512 * d) words) a < 2 ^ 16
 unfolding word_at replaced
 replaced_in memory d words size n d< p q a = grind (arith, common_steps)
@@ -289,15 +322,10 @@ replaced_in memory d words size n d< p q a = grind (arith, common_steps)
 
 reached_changed : (m : Machine) → Reached m → (x : Change) → Reached (changed m x)
 unfolding write_at
-reached_changed m h (written (Other r) w) = reached_rest m h _ (rest_in r w m.state.rest h.rest)
-reached_changed m h (written Control w) = reached_control m h w
-reached_changed m h (written Mode w) = reached_gates m h _ (gates_in_lem with_mode (λ b g h. assumption) w m.state.gates h.gates)
-reached_changed m h (written (Timeout g) w) = reached_gates m h _ (timeout_in m.state.gates h.gates g w)
-reached_changed m h (written Key w) = reached_common m h _ (key_in w m.state.common h.common) (unfold key_write in refl)
-reached_changed m h (written Enable w) = reached_common m h _ (enable_in w m.state.common h.common) (unfold enable_write in refl)
-reached_changed m h (written Reload w) = reached_common m h _ (reload_in w m.state.common h.common) (control_stays w m.state.common)
-reached_changed m h (written Prepare w) = reached_gates m h _ (gates_in_lem with_prepare (λ b g h. assumption) w m.state.gates h.gates)
-reached_changed m h (written Recover w) = reached_gates m h _ (gates_in_lem with_recover (λ b g h. assumption) w m.state.gates h.gates)
+reached_changed m h (written (Setting q) w) = reached_settings m h _ (settings_in q w m.state.settings h.settings)
+reached_changed m h (written (Shared q) w) = reached_shared m h q w
+reached_changed m h (written (Gates q) w) = reached_gates m h _ (gates_in q w m.state.gates h.gates)
+reached_changed m h (written (Watchdogs k) w) = reached_watchdogs m h _ (resets_in k w m.state.watchdogs h.watchdogs)
 reached_changed m h (written (Input n) w) = reached_input m h n w
 reached_changed m h (written (Group k) w) =
     reached_groups m h _ (all_set 0 (λ i n. n < 2 ^ 16) (λ i. lit< tt) m.state.groups k _ (kept_lt (Group k) w) h.groups)
@@ -333,10 +361,7 @@ first_of_words x l o = (tt, o)
 -- the part of it that needs no words
 pub range_changed : (m : Machine) → CommonInRange m.state.common → (x : Change) → CommonInRange (changed m x).state.common
 unfolding write_at
-range_changed m h (written Control w) = control_in w m.state.common h
-range_changed m h (written Key w) = key_in w m.state.common h
-range_changed m h (written Enable w) = enable_in w m.state.common h
-range_changed m h (written Reload w) = reload_in w m.state.common h
+range_changed m h (written (Shared q) w) = shared_in q w m.state.common h
 range_changed m h (asked t) = tag_request_in t m.state.common h
 range_changed m h x = h
 
@@ -368,14 +393,16 @@ reached_start = record {
   gates = all_tabulate gate0 (λ i. GateInRange) (λ i. gate0_in) 12 _ (λ i. gate0_in);
   levels = lit< tt;
   common = common_start;
-  rest = record {
-    masks = all_tabulate 0 (λ k n. n < 2 ^ used_bits (Other (Mask k))) (λ k. lit< tt) 6 _ (λ k. lit< tt);
+  watchdogs = all_tabulate watchdog0 (λ i w. w.value ≤ watchdog_top) (λ i. omega arith) 54 _ (λ i. omega arith);
+  settings = record {
+    masks = all_tabulate 0 (λ k n. n < 2 ^ used_bits (Setting (Mask k))) (λ k. lit< tt) 6 _ (λ k. lit< tt);
     timeout = lit< tt;
     selections =
-        all_tabulate [] (λ o words. (k : ℕ) → get_or words k 0 < 2 ^ used_bits (Other (Selection o k))) (λ o k. pow_pos (used_bits (Other (Selection o k)))) 6 _
-        (λ o. all_tabulate 0 (λ k n. n < 2 ^ used_bits (Other (Selection o k))) (λ k. pow_pos (used_bits (Other (Selection o k)))) 22 _
-        (λ k. pow_pos (used_bits (Other (Selection o k)))));
-    watchdogs = all_tabulate watchdog0 (λ i w. w.value ≤ watchdog_top) (λ i. omega arith) 54 _ (λ i. omega arith);
+        all_tabulate [] (λ o words. (k : ℕ) → get_or words k 0 < 2 ^ used_bits (Setting (Selection o k))) (λ o k. pow_pos (used_bits (Setting (Selection o k)))) 6 _
+        (λ o. all_tabulate 0 (λ k n. n < 2 ^ used_bits (Setting (Selection o k))) (λ k. pow_pos (used_bits (Setting (Selection o k)))) 22 _
+        (λ k. pow_pos (used_bits (Setting (Selection o k)))));
+  };
+  status = record {
     rawcounts = all_tabulate 0 (λ i n. n < 2 ^ 32) (λ i. lit< tt) 54 _ (λ i. lit< tt);
     gatelevels = lit< tt;
     events = record { low = lit< tt; high = lit< tt; code = lit< tt; handled = lit< tt };

@@ -15,7 +15,7 @@ use Rattle.device.specs.State.{Machine}
 use Rattle.interlocks.specs.Interlock.{interlocks, output_count, trips}
 use Rattle.interlocks.specs.Scan.{output_scan, scan_of, words_read}
 use Rattle.interlocks.proofs.Scanning.{words_all}
-use Rattle.reading.specs.Read.{read_of, status_word, word_in, word_shown}
+use Rattle.reading.specs.Read.{read_of, readout_word, word_in, word_shown}
 use Rattle.sheet.specs.Scans.{no_scan, scan_at}
 
 module _ (m : Machine) (o : ℕ) (h : o < output_count) where
@@ -28,7 +28,7 @@ module _ (m : Machine) (o : ℕ) (h : o < output_count) where
   refused e = rw e refl
 
   pub scan_level : (scan_at (scan_of m) o).level ≡ bit (word_shown (read_of m 0x0719)) o
-  unfolding read_of word_in status_word interlocks decode_of status_map
+  unfolding read_of word_in readout_word interlocks decode_of status_map
   scan_level = grind (arith, made, bit_pack, refused, bit_zero)
 
   pub scan_least : (w : ℕ) → w < (scan_at (scan_of m) o).words → trips m.state o w ≡ false

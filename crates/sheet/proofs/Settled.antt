@@ -25,7 +25,9 @@ use Rattle.gates.specs.Gate.{each_gate, gate0, gate_at, gate_bits, gate_step, mo
 use Rattle.gates.proofs.Gates.{gate_bit, length_each_gate}
 use Rattle.loader.specs.Loader.{is_beyond}
 use Rattle.loader.specs.Memory.{loaded}
-use Rattle.device.specs.declared.map.Register.TheVariants.{Control, Enable, Input, Key, Timeout, Word}
+use Rattle.device.specs.declared.map.GateWord.TheVariants.{Timeout}
+use Rattle.device.specs.declared.map.Register.TheVariants.{Gates, Input, Shared, Word}
+use Rattle.device.specs.declared.map.SharedWord.TheVariants.{Control, Enable, Key}
 use Rattle.device.specs.declared.state.Common.{Common}
 use Rattle.causes.specs.Causes.{is_done}
 use Rattle.device.specs.Map.{kept}
@@ -108,11 +110,11 @@ four_same memory size d four e =
     whole k d e = omega arith
 
 -- 0x0801 again: with RESET set the count is 0 already
-reset_kept : (w : ℕ) → reset_on (kept Control w) ≡ reset_on w
+reset_kept : (w : ℕ) → reset_on (kept (Shared Control) w) ≡ reset_on w
 unfolding kept
 reset_kept w = bit_low 2 w 0 (omega arith)
 
-control_same : (w : ℕ) (s : Sheet) → Formed s → kept Control w ≡ s.common.control →
+control_same : (w : ℕ) (s : Sheet) → Formed s → kept (Shared Control) w ≡ s.common.control →
     put_common (put_counter s (reset_counter w s.counter)) (control_write w s.common) ≡ s
 unfolding control_write
 control_same w s f e =
@@ -153,16 +155,16 @@ own_repeat c s f (ticked true inputs gates) e = refl
 own_repeat c s f (ticked false inputs gates) e = absurd (false≢true e)
 own_repeat c s f (patched w) e = ap (λ (x : ℕ). put_counter s (with_input s.counter x)) (eqb-true (kept (Input c) w) s.counter.input e)
 own_repeat c s f (stored k w) e = ap (put_memory s) (word_same s.memory k _ (eqb-true (kept (Word k) w) (get_or s.memory k 0) e))
-own_repeat c s f (controlled w) e = control_same w s f (eqb-true (kept Control w) s.common.control e)
+own_repeat c s f (controlled w) e = control_same w s f (eqb-true (kept (Shared Control) w) s.common.control e)
 own_repeat c s f (keyed w) e =
     ap (λ (x : ℕ). put_common s (with_registers s.common s.common.control x s.common.enable s.common.reload))
-    (eqb-true (kept Key w) s.common.key e)
+    (eqb-true (kept (Shared Key) w) s.common.key e)
 own_repeat c s f (enabled w) e =
     ap (λ (x : ℕ). put_common s (with_registers s.common s.common.control s.common.key x s.common.reload))
-    (eqb-true (kept Enable w) s.common.enable e)
+    (eqb-true (kept (Shared Enable) w) s.common.enable e)
 own_repeat c s f (reloaded w) e = absurd (false≢true e)
 own_repeat c s f (timed g w) e =
-    ap (put_gates s) (timeout_same s.gates g _ (eqb-true (kept (Timeout g) w) (gate_at s.gates g).timeout e))
+    ap (put_gates s) (timeout_same s.gates g _ (eqb-true (kept (Gates (Timeout g)) w) (gate_at s.gates g).timeout e))
 own_repeat c s f (grouped n) e = ap (put_group s) (eqb-true n s.group e)
 own_repeat c s f (moded w) e = ap (put_gates s) (bits_same with_mode mode (λ g. refl) w s.gates f.gates e)
 own_repeat c s f (prepared w) e = ap (put_gates s) (bits_same with_prepare prepare (λ g. refl) w s.gates f.gates e)

@@ -15,25 +15,25 @@ use Rattle.gates.proofs.Gates.{length_each_gate}
 use Rattle.loader.specs.declared.loader.Reload.{Reload as Reloading}
 use Rattle.loader.specs.Loader.{load_into}
 use Rattle.watchdogs.specs.Watchdog.{reset_watchdogs, step_watchdogs}
-use Rattle.device.specs.declared.map.Register.TheVariants.{Other}
-use Rattle.device.specs.declared.map.Setting.TheVariants.{Selection}
+use Rattle.device.specs.declared.map.Register.TheVariants.{Setting}
+use Rattle.device.specs.declared.map.SettingWord.TheVariants.{Selection}
 use Rattle.device.specs.Map.{kept}
 use Rattle.device.specs.State.{Machine, memory0, power_up}
 use Rattle.registers.specs.Calls.{Call, after, machine0, step}
 use Rattle.registers.proofs.Keeping.{Any, Change, Keeps, after_keeps, changed, step_keeps, written}
-use Rattle.registers.proofs.Whole.{Whole, length_replaced}
-use Rattle.ticking.specs.Tick.{rest_tick, tick_of}
-use Rattle.writing.specs.Write.{reset_by, rest_write, with_selected, write_at}
+use Rattle.registers.proofs.Whole.{WholeMemory, length_replaced}
+use Rattle.ticking.specs.Tick.{tick_of}
+use Rattle.writing.specs.Write.{gates_write, reset_by, settings_write, with_selected, write_at}
 
 pub record Sized (m : Machine) : Type 0 where
   pub counters : length m.state.counters ≡ 128
   pub groups : length m.state.groups ≡ 32
   pub gates : length m.state.gates ≡ 12
-  pub watchdogs : length m.state.rest.watchdogs ≡ 54
-  pub masks : length m.state.rest.masks ≡ 6
-  pub selections : length m.state.rest.selections ≡ 6
-  pub blocks : (o : ℕ) → o < 6 → length (get_or m.state.rest.selections o []) ≡ 22
-  pub memory : Whole m
+  pub watchdogs : length m.state.watchdogs ≡ 54
+  pub masks : length m.state.settings.masks ≡ 6
+  pub selections : length m.state.settings.selections ≡ 6
+  pub blocks : (o : ℕ) → o < 6 → length (get_or m.state.settings.selections o []) ≡ 22
+  pub memory : WholeMemory m.memory
 
 length_load : (l : Option Reloading) (groups memory : List ℕ) (xs : List Counter) → length xs ≡ 128 → length (load_into l groups memory xs) ≡ 128
 unfolding load_into
@@ -59,13 +59,13 @@ blocks_written : (xss : List (List ℕ)) (o k w : ℕ) → length xss ≡ 6 → 
 blocks_written xss o k w size h p l = grind (arith, common_steps, length-set)
 
 sized_changed : (m : Machine) → Sized m → (x : Change) → Sized (changed m x)
-unfolding write_at rest_write reset_watchdogs
-sized_changed m s (written (Other (Selection o k)) w) =
-    assumption (selections_written m.state.rest.selections o k (kept (Other (Selection o k)) w) s.selections, blocks_written m.state.rest.selections o k (kept (Other (Selection o k)) w) s.selections s.blocks)
+unfolding write_at settings_write gates_write reset_watchdogs
+sized_changed m s (written (Setting (Selection o k)) w) =
+    assumption (selections_written m.state.settings.selections o k (kept (Setting (Selection o k)) w) s.selections, blocks_written m.state.settings.selections o k (kept (Setting (Selection o k)) w) s.selections s.blocks)
 sized_changed m s x = grind (arith, length_reset, length_cleared, length_each, length_each_gate, length-set)
 
 sized_keeps : Keeps Any Sized
-unfolding tick_of rest_tick step_watchdogs
+unfolding tick_of step_watchdogs
 sized_keeps = record {
   change = sized_changed;
   tick = λ m s inputs gates c e. grind (arith, length_load, length_ticked, length_each, length_each_gate);
@@ -92,5 +92,5 @@ pub sized_after : (l : List Call) → Sized (after l)
 sized_after = after_keeps sized_keeps sized_start
 
 -- the memory has all its words after every list
-pub full_after : (l : List Call) → Whole (after l)
+pub full_after : (l : List Call) → WholeMemory (after l).memory
 full_after l = (sized_after l).memory

@@ -22,15 +22,16 @@ use Rattle.lines.specs.Lines.{rises_of}
 use Rattle.loader.specs.Loader.{group_at, load_into}
 use Rattle.loader.specs.Memory.{loaded, place_of, replaced, word_at}
 use Rattle.device.specs.declared.map.Register.{Register}
-use Rattle.device.specs.declared.map.Register.TheVariants.{Timeout, Input, Group, Word}
-use Rattle.device.specs.declared.state.Rest.{Rest}
+use Rattle.device.specs.declared.map.GateWord.TheVariants.{Timeout}
+use Rattle.device.specs.declared.map.Register.TheVariants.{Gates, Input, Group, Word}
+use Rattle.device.specs.declared.state.Status.{Status}
 use Rattle.registers.specs.Calls.{Call, download, called, step}
 use Rattle.device.specs.Map.{kept}
-use Rattle.device.specs.State.{Machine, with_rest, with_state}
+use Rattle.device.specs.State.{Machine, with_status, with_state}
 use Rattle.tagging.specs.Tag.{commanded, tag_of}
 use Rattle.ticking.specs.Tick.{tick_of}
-use Rattle.writing.specs.Write.{reset_by, write_at}
-use Rattle.registers.proofs.Whole.{accepted, step_called}
+use Rattle.writing.specs.Write.{gates_write, reset_by, shared_write, write_at}
+use Rattle.registers.proofs.Whole.{WholeMemory, accepted, step_called}
 use Rattle.sheet.specs.Lines.{Lines}
 use Rattle.sheet.specs.OwnPart.{four_of, own, own_at, own_tag, own_word}
 use Rattle.sheet.specs.Sheet.{put_gates, put_four, reset_counter, sheet_command, sheet_load, sheet_step, sheet_tag, sheet_tick}
@@ -57,12 +58,12 @@ module _ (c : ℕ) (c< : c < 128) where
   unfolding own_place
   own_place_not a e k h = ne_eqb _ a (λ p. e (omega arith))
 
-  loaded_own : (memory : List ℕ) → length memory ≡ 16384 → (d : ℕ) (x : Counter) →
+  loaded_own : (memory : List ℕ) → WholeMemory memory → (d : ℕ) (x : Counter) →
       loaded memory (place_of d c) x ≡ loaded (own_words c memory) (4 * d) x
   unfolding loaded
   loaded_own memory size d x = grind (arith, own_words_first, own_words_at)
 
-  load : (l : Option Reloading) (groups memory : List ℕ) (xs : List Counter) → length xs ≡ 128 → length memory ≡ 16384 →
+  load : (l : Option Reloading) (groups memory : List ℕ) (xs : List Counter) → length xs ≡ 128 → WholeMemory memory →
       counter_at (load_into l groups memory xs) c ≡ sheet_load c l (group_at groups c) (own_words c memory) (counter_at xs c)
   unfolding load_into sheet_load counter_at
   load l groups memory xs p q = grind (arith, get_d_set, loaded_own)
@@ -99,11 +100,11 @@ module _ (S : Lines) (c : ℕ) (c< : c < 128) (m : Machine) (size : Sized m) whe
   unfolding sheet_in write_at own_at sheet_step counter_at kept
   input_square n w = grind (arith, common_steps)
 
-  timeout_square : (g w : ℕ) → sheet_in S c (write_at m (Timeout g) w) ≡ sheet_step_by c (sheet_in S c m) (own_at S c (Timeout g) w)
-  unfolding sheet_in write_at own_at sheet_step
+  timeout_square : (g w : ℕ) → sheet_in S c (write_at m (Gates (Timeout g)) w) ≡ sheet_step_by c (sheet_in S c m) (own_at S c (Gates (Timeout g)) w)
+  unfolding sheet_in write_at gates_write shared_write own_at sheet_step
   timeout_square g w =
       cases (S.gates g)
-      (λ e. rw e (ap (put_gates (sheet_in S c m)) (own_gates_set S.gates m.state.gates size.gates g e (with_timeout (kept (Timeout g) w)))))
+      (λ e. rw e (ap (put_gates (sheet_in S c m)) (own_gates_set S.gates m.state.gates size.gates g e (with_timeout (kept (Gates (Timeout g)) w)))))
       (λ e. rw e (ap (put_gates (sheet_in S c m)) (own_gates_other S.gates m.state.gates size.gates g e _)))
 
   group_square : (k w : ℕ) → sheet_in S c (write_at m (Group k) w) ≡ sheet_step_by c (sheet_in S c m) (own_at S c (Group k) w)
@@ -123,15 +124,15 @@ module _ (S : Lines) (c : ℕ) (c< : c < 128) (m : Machine) (size : Sized m) whe
   reset_square w = pick_ap (λ (x : List Counter). counter_at x c) (reset_on w) _ _ ∙ rw clear_square
 
   write_square : (r : Register) (w : ℕ) → sheet_in S c (write_at m r w) ≡ sheet_step_by c (sheet_in S c m) (own_at S c r w)
-  unfolding sheet_in write_at own_at sheet_step
+  unfolding sheet_in write_at gates_write shared_write own_at sheet_step
   write_square r w = grind (arith, reset_square, own_gates_each, timeout_square, input_square, group_square, word_square)
 
   -- ---- tag
 
   -- what no counter sees may be anything
-  command_square : (r : Rest) (t : ℕ) → sheet_in S c (with_state m (commanded (with_rest m.state r) t)) ≡ sheet_command (sheet_in S c m) (own_tag S t)
+  command_square : (x : Status) (t : ℕ) → sheet_in S c (with_state m (commanded (with_status m.state x) t)) ≡ sheet_command (sheet_in S c m) (own_tag S t)
   unfolding sheet_in commanded sheet_command
-  command_square r t = grind (arith, own_tag_command, own_tag_whole, own_gates_each, own_tag_gates, clear_square)
+  command_square x t = grind (arith, own_tag_command, own_tag_whole, own_gates_each, own_tag_gates, clear_square)
 
   -- what a tag leaves in 0x0900 to 0x0902 is in no sheet
   tag_square : (t : ℕ) → sheet_in S c (with_state m (tag_of m.state t)) ≡ sheet_tag (sheet_in S c m) (own_tag S t)

@@ -10,6 +10,7 @@ use lib.ListN.{length}
 use Rattle.std.proofs.Common.{Some, None, Ok, Err}
 use Rattle.bools.proofs.Tests.{cases, pick_elim}
 use Rattle.loader.specs.Memory.{is_whole}
+use Rattle.registers.proofs.Whole.{WholeMemory}
 use Rattle.registers.specs.Calls.{Call, tick, write, tag}
 use Rattle.device.specs.State.{Machine}
 use Rattle.lines.specs.declared.levels.Levels.{Levels}
@@ -90,7 +91,7 @@ module _ (t : List ℕ) (budget : ℕ) where
   abbrev pub ended : Run → Run
   ended r = run_from (length t + 1 - place r) t budget r
 
-  pub begun_ended : (m : Machine) → length m.memory ≡ 16384 → ended (begun m) ≡ run_of t budget m
+  pub begun_ended : (m : Machine) → WholeMemory m.memory → ended (begun m) ≡ run_of t budget m
   begun_ended m h = let e : length t + 1 - 0 ≡ length t + 1 = omega arith in rw e (run_begins t budget m h)
 
   -- a record makes no other end of a run: of one that goes on, and then further on in the trace; and of one that stops

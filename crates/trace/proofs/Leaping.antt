@@ -7,6 +7,7 @@ use mathlib.Core.Path.{◌≡◌, refl, sym, ap, ◌∙◌}
 use borrow.Author.Tests.{eq-eqb}
 use lib.ListN.{length}
 use Rattle.device.specs.declared.state.Crate.{Crate}
+use Rattle.registers.proofs.Whole.{WholeMemory, is_whole_lem}
 use Rattle.registers.specs.Calls.{Call, tick, called, from, step}
 use Rattle.device.specs.State.{Machine, machine}
 use Rattle.ticking.specs.Tick.{tick_of}
@@ -26,10 +27,10 @@ calls_split (suc k) n m x h =
     let d : suc k - 1 ≡ k = omega arith in
     rw (← (calls_less (suc k) m x (omega arith)), d, e) (calls_split k (n - 1) (step m x) x (omega arith) ∙ calls_less n m x (omega arith))
 
-module _ (memory : List ℕ) (inputs gates : ℕ) (whole : length memory ≡ 16384) (good : bad_levels inputs gates ≡ false) where
+module _ (memory : List ℕ) (inputs gates : ℕ) (whole : WholeMemory memory) (good : bad_levels inputs gates ≡ false) where
   tick_made : (s : Crate) → step (machine s memory) (tick inputs gates) ≡ machine (tick_of s memory inputs gates) memory
   unfolding step called
-  tick_made s = rw (eq-eqb (length memory) 16384 whole, good)
+  tick_made s = rw (is_whole_lem memory whole, good)
 
   ticks_from : (k : ℕ) (s : Crate) → from (machine s memory) (repeated k (tick inputs gates)) ≡ machine (ticks_of k s memory inputs gates) memory
   unfolding ticks_of

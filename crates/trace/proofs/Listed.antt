@@ -17,7 +17,7 @@ use Rattle.registers.specs.Calls.{Call, tick, write, tag, accepted_ticks, answer
 use Rattle.device.specs.State.{Machine}
 use Rattle.lines.specs.declared.levels.Levels.{Levels}
 use Rattle.lines.specs.Lines.{bad_levels}
-use Rattle.registers.proofs.Whole.{full_from}
+use Rattle.registers.proofs.Whole.{WholeMemory, full_from}
 use Rattle.registers.proofs.Lists.{from_append, refusals_append, refusals_repeated, ticks_append, ticks_repeated}
 use Rattle.records.specs.declared.Record.TheVariants.{Ticks, Write, Tag}
 use Rattle.records.specs.declared.Stop.{Stop}
@@ -53,9 +53,6 @@ passes_both {r} {q} {s} {n} {k} {calls} {more} a b = record {
       (add_assoc _ (refusals (machine_of r) calls) (refusals (from (machine_of r) calls) more));
 }
 
-abbrev Whole : Run → Type 0
-Whole r = length r.memory ≡ 16384
-
 -- one record: the run passes it by its calls, or it stops and nothing changes but the stop
 pub data Turn (r q : Run) (calls : List Call) : Type 0 where
   going : q.progress.going ≡ true → Passes r q 1 calls → Turn r q calls
@@ -78,7 +75,7 @@ module _ (t : List ℕ) (budget : ℕ) where
   unfolding answer call_answer
   tick_refused inputs gates m bad = cases (is_whole m.memory) (λ e. rw (e, bad)) (λ e. rw e)
 
-  ticks_turn : (r : Run) → Whole r → (n : ℕ) (levels : Levels) → Turn r (ticks_in t budget r n levels.inputs levels.gates) (calls_of (Ok (Some (Ticks n levels))))
+  ticks_turn : (r : Run) → WholeMemory r.memory → (n : ℕ) (levels : Levels) → Turn r (ticks_in t budget r n levels.inputs levels.gates) (calls_of (Ok (Some (Ticks n levels))))
   unfolding ticks_in calls_of passes repeated
   ticks_turn r h n levels =
       let inputs = levels.inputs in
@@ -105,7 +102,7 @@ module _ (t : List ℕ) (budget : ℕ) where
         refused = rw (refusals_repeated inputs gates good n (machine_of r) h);
       })))))
 
-  record_turn : (r : Run) → Whole r → (x : Found) → Turn r (by_record t budget x r) (calls_of x)
+  record_turn : (r : Run) → WholeMemory r.memory → (x : Found) → Turn r (by_record t budget x r) (calls_of x)
   unfolding by_record calls_of
   record_turn r h (Err cause) = stop_turn r _ (Refused cause)
   record_turn r h (Ok None) = stop_turn r _ End
@@ -113,7 +110,7 @@ module _ (t : List ℕ) (budget : ℕ) where
   record_turn r h (Ok (Some (Write a w))) = call_turn r (write a w) (unfold accepted_ticks in refl)
   record_turn r h (Ok (Some (Tag e))) = call_turn r (tag e) (unfold accepted_ticks in refl)
 
-  whole_after : (r q : Run) {n : ℕ} {calls : List Call} → Whole r → Passes r q n calls → Whole q
+  whole_after : (r q : Run) {n : ℕ} {calls : List Call} → WholeMemory r.memory → Passes r q n calls → WholeMemory q.memory
   whole_after r q {n} {calls} h p = ap (λ (m : Machine). length m.memory) p.state ∙ full_from (machine_of r) h calls
 
   -- one turn of a run; the equation goes into the test alone, as a rewrite would go into the run itself
@@ -145,8 +142,8 @@ module _ (t : List ℕ) (budget : ℕ) where
   abbrev Along : ℕ → Run → Type 0
   Along fuel r = Passes r (run_from fuel t budget r) (length (passed_from fuel t budget r)) (calls_in (passed_from fuel t budget r))
 
-  turned : (fuel : ℕ) → ((q : Run) → Whole q → q.progress.going ≡ true → Along fuel q) →
-      (r : Run) → Whole r → (x : Found) (q : Run) → Turn r q (calls_of x) →
+  turned : (fuel : ℕ) → ((q : Run) → WholeMemory q.memory → q.progress.going ≡ true → Along fuel q) →
+      (r : Run) → WholeMemory r.memory → (x : Found) (q : Run) → Turn r q (calls_of x) →
       Passes r (run_from fuel t budget q) (length (behind fuel x q)) (calls_in (behind fuel x q))
   unfolding calls_in
   turned fuel more r h x q (going f p) = rw (behind_by fuel x q f) (counted (passes_both p (more q (whole_after r q h p) f)))
@@ -156,7 +153,7 @@ module _ (t : List ℕ) (budget : ℕ) where
   turned fuel more r h x q (halted f p) = rw (behind_by fuel x q f, halted_stays fuel q f) p
 
   -- a run from one that goes on
-  along : (fuel : ℕ) (r : Run) → Whole r → r.progress.going ≡ true → Along fuel r
+  along : (fuel : ℕ) (r : Run) → WholeMemory r.memory → r.progress.going ≡ true → Along fuel r
   unfolding run_from passed_from calls_in
   along zero r h e = passes_none r
   along (suc fuel) r h e =

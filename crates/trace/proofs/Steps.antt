@@ -17,6 +17,7 @@ use Rattle.std.proofs.Common.{Some, None, Ok, Err}
 use Rattle.bools.proofs.Tests.{cases, pick_elim}
 use Rattle.lists.specs.Table.{table_from, tabulate}
 use Rattle.loader.specs.Memory.{is_whole}
+use Rattle.registers.proofs.Whole.{WholeMemory, is_whole_lem}
 use Rattle.registers.specs.Calls.{Call, tick, write, tag, answer, called, from, is_refused, step}
 use Rattle.device.specs.declared.state.Crate.{Crate}
 use Rattle.causes.specs.Causes.{Answer, is_done}
@@ -190,6 +191,6 @@ module _ (t : List ℕ) (r : Report) {x : Record} (known : record_at t r.next �
       (record_kept t budget (run (progress_of s r true) memory) sound (Ok (Some x)) (whole_at t r.next refl known)).sound
 
 -- a run begins with a whole memory
-pub run_begins : (t : List ℕ) (budget : ℕ) (m : Machine) → length m.memory ≡ 16384 → run_from (length t + 1) t budget (begun m) ≡ run_of t budget m
+pub run_begins : (t : List ℕ) (budget : ℕ) (m : Machine) → WholeMemory m.memory → run_from (length t + 1) t budget (begun m) ≡ run_of t budget m
 unfolding run_of
-run_begins t budget m h = rw (eq-eqb (length m.memory) 16384 h)
+run_begins t budget m h = rw (is_whole_lem m.memory h)
