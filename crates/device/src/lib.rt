@@ -5,4 +5,4 @@ mod map;
 mod state;
 
 pub use map::{GateWord, ReadoutWord, Register, SettingWord, SharedWord, decode};
-pub use state::{Common, Crate, Events, Settings, Status};
+pub use state::{Common, Crate, Events, OUTPUT_WORDS, OUTPUTS, Settings, Status};

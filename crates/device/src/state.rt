@@ -3,20 +3,28 @@
 ghost use Rattle.std.specs.Prelude.{◌≡◌};
 ghost use Rattle.device.specs.State.{power_up, settings0, status0};
 
-use counters::Counter;
+use counters::{COUNTERS, Counter};
 use gates::Gate;
-use loader::{Queue, Reload};
+use lines::{GATES, INPUTS, SIGNALS};
+use loader::{GROUP_WORDS, Queue, Reload};
 use watchdogs::Watchdog;
+
+// The interlock outputs, and the selection words of each; the mask registers, two slots each.
+pub const OUTPUTS: usize = 6;
+
+pub const OUTPUT_WORDS: usize = 22;
+
+const MASKS: usize = 6;
 
 #[derive(Clone, Drop)]
 pub struct Crate {
-    pub counters: [Counter; 128],
+    pub counters: [Counter; COUNTERS],
     // registers 0x1600 to 0x161F, four bits a counter; as words, since in the counters each read would put one together from four and each
     // write would take one apart
-    pub groups: [u16; 32],
-    pub gates: [Gate; 12],
+    pub groups: [u16; GROUP_WORDS],
+    pub gates: [Gate; GATES],
     // beside the raw counts: each is stepped, reset and read by itself, and nothing takes both of one input
-    pub watchdogs: [Watchdog; 54],
+    pub watchdogs: [Watchdog; INPUTS],
     // the input levels of the last tick; every counter sees them, and no counter sees the gate levels in `status`, so they are not one `Levels`
     pub levels: u64,
     pub common: Common,
@@ -31,10 +39,10 @@ impl Default for Crate {
     #[tactic(auto, unfolding(crate::specs::State::power_up, lists::specs::Table::tabulate, lists::specs::Table::table_from))]
     fn default() -> Crate {
         Crate {
-            counters: [Counter::default(); 128],
-            groups: [0; 32],
-            gates: [Gate::default(); 12],
-            watchdogs: [Watchdog::default(); 54],
+            counters: [Counter::default(); COUNTERS],
+            groups: [0; GROUP_WORDS],
+            gates: [Gate::default(); GATES],
+            watchdogs: [Watchdog::default(); INPUTS],
             levels: 0,
             common: Common::default(),
             settings: Settings::default(),
@@ -54,16 +62,16 @@ pub struct Common {
     pub queue: Queue,
     // the reload that the loader works on, none while it is idle
     pub loader: Option<Reload>,
-    pub phases: [u32; 9],
+    pub phases: [u32; SIGNALS],
 }
 
 // What writes alone change and no counter sees.
 #[derive(Clone, Copy)]
 pub struct Settings {
     // registers 0x0630 to 0x0635, 0x0800, and 22 of each output's block
-    pub masks: [u16; 6],
+    pub masks: [u16; MASKS],
     pub timeout: u16,
-    pub selections: [[u16; 22]; 6],
+    pub selections: [[u16; OUTPUT_WORDS]; OUTPUTS],
 }
 
 impl Default for Settings {
@@ -72,9 +80,9 @@ impl Default for Settings {
     #[tactic(auto, unfolding(lists::specs::Table::tabulate, lists::specs::Table::table_from))]
     fn default() -> Settings {
         Settings {
-            masks: [0; 6],
+            masks: [0; MASKS],
             timeout: 65535,
-            selections: [[0; 22]; 6],
+            selections: [[0; OUTPUT_WORDS]; OUTPUTS],
         }
     }
 }
@@ -83,7 +91,7 @@ impl Default for Settings {
 #[derive(Clone, Copy)]
 pub struct Status {
     // registers 0x1300 to 0x136B: how often each input has risen since power-up, modulo 2^32
-    pub rawcounts: [u32; 54],
+    pub rawcounts: [u32; INPUTS],
     // the gate levels of the last tick
     pub gatelevels: u16,
     pub events: Events,
@@ -95,7 +103,7 @@ impl Default for Status {
     #[tactic(auto, unfolding(lists::specs::Table::tabulate, lists::specs::Table::table_from))]
     fn default() -> Status {
         Status {
-            rawcounts: [0; 54],
+            rawcounts: [0; INPUTS],
             gatelevels: 0,
             events: Events::default(),
         }

@@ -8,8 +8,11 @@ ghost use Rattle.interlocks.specs.Scan.{scanned};
 ghost use Rattle.interlocks.specs.Together.{ended_at, ended_next, words_next};
 
 use crate::signals::{meet, signals};
-use device::Crate;
+use device::{Crate, OUTPUT_WORDS, OUTPUTS};
 use std::array;
+
+// The selection words of an output.
+const WORDS: u16 = OUTPUT_WORDS as u16;
 
 // What a scan tells of an output: its level, and how many of its selection words were read. An output that is 1 has all 22 read. Callers want
 // both, so they would take an Option apart at once.
@@ -20,7 +23,11 @@ pub struct OutputScan {
 }
 
 // Word k of each output that is still 1; no signal for the others.
-fn words_next(ended: &[Option<u16>; 6], selections: &[[u16; 22]; 6], k: u16) -> [u16; 6]
+fn words_next(
+    ended: &[Option<u16>; OUTPUTS],
+    selections: &[[u16; OUTPUT_WORDS]; OUTPUTS],
+    k: u16,
+) -> [u16; OUTPUTS]
     requires { k < 22 }
     ensures { result ≡ words_next ended.now selections.now k }
 {
@@ -32,11 +39,11 @@ fn words_next(ended: &[Option<u16>; 6], selections: &[[u16; 22]; 6], k: u16) -> 
 
 // Where the scans ended, after one more word of the outputs that are still 1: so many were read.
 fn ended_next(
-    ended: &[Option<u16>; 6],
-    words: &[u16; 6],
+    ended: &[Option<u16>; OUTPUTS],
+    words: &[u16; OUTPUTS],
     present: u16,
     read: u16,
-) -> [Option<u16>; 6]
+) -> [Option<u16>; OUTPUTS]
     ensures { result ≡ ended_next ended.now words.now present read }
 {
     array::from_fn(|o| {
@@ -49,13 +56,13 @@ fn ended_next(
 }
 
 // Where the scans ended, after all words.
-fn ended(s: &Crate) -> [Option<u16>; 6]
+fn ended(s: &Crate) -> [Option<u16>; OUTPUTS]
     ensures { result ≡ tabulate 6 (ended_at s.now) }
 {
-    let mut ended = [None; 6];
-    for k in 0..22 {
+    let mut ended = [None; OUTPUTS];
+    for k in 0..WORDS {
         let words = words_next(&ended, &s.settings.selections, k);
-        if words != [0; 6] {
+        if words != [0; OUTPUTS] {
             // a name of its own first: an array set from a call on itself has no proof rule
             let next = ended_next(&ended, &words, signals(s, k), k + 1);
             ended = next;
@@ -69,16 +76,16 @@ pub fn outputs(s: &Crate) -> u16
     ensures { result ≡ interlocks s.now }
 {
     let ended = ended(s);
-    words::from_bits(6, |o| ended[o].is_none())
+    words::from_bits(OUTPUTS, |o| ended[o].is_none())
 }
 
 // Of each output its level, and how many of its words are read to know it.
-pub fn scan_outputs(s: &Crate) -> [OutputScan; 6]
+pub fn scan_outputs(s: &Crate) -> [OutputScan; OUTPUTS]
     ensures { result ≡ scanned s.now }
 {
     let ended = ended(s);
     array::from_fn(|o| OutputScan {
         level: ended[o].is_none(),
-        words: ended[o].unwrap_or(22),
+        words: ended[o].unwrap_or(WORDS),
     })
 }

@@ -5,12 +5,16 @@ ghost use Rattle.interlocks.specs.Interlock.{low_gates, meets, signals};
 use counters::Counter;
 use device::Crate;
 use gates::Gate;
+use lines::GATES;
+
+// A word with the bit of every gate.
+const ALL_GATES: u16 = (1 << GATES) - 1;
 
 // The gates whose input was low at the last accepted tick; all at power-up. By ^, as in `lines::rises`.
 fn low_gates(gatelevels: u16) -> u16
     ensures { result ≡ low_gates gatelevels }
 {
-    0x0FFF ^ (0x0FFF & gatelevels)
+    ALL_GATES ^ (ALL_GATES & gatelevels)
 }
 
 // The signals that selection word k of an output chooses from, in the order of the addresses.

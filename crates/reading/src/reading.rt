@@ -8,7 +8,7 @@ ghost use Rattle.device.specs.State.{machine};
 use counters::Counter;
 use device::{Common, Crate, GateWord, ReadoutWord, Register, SettingWord, Settings, SharedWord};
 use gates::Gate;
-use loader::Reload;
+use loader::{MEMORY_WORDS, Reload};
 
 // Element i; past the end one as at power-up, the one default of its type.
 fn at<T: Copy + Default>(xs: &[T], i: u16) -> T
@@ -134,7 +134,7 @@ fn gate_word(gates: &[Gate; 12], q: GateWord) -> u16
 
 // The word of a register.
 #[tactic(auto, unfolding(crate::specs::Read::word_in, counters::specs::Counter::counter_at, loader::specs::Memory::word_at))]
-pub fn word_in(s: &Crate, mem: &[u16; 16384], r: Register) -> u16
+pub fn word_in(s: &Crate, mem: &[u16; MEMORY_WORDS], r: Register) -> u16
     ensures { result ≡ word_in (machine s.now mem.now) r }
 {
     match r {

@@ -8,10 +8,10 @@ ghost use Rattle.reading.specs.Read.{read_of};
 ghost use Rattle.device.specs.State.{machine};
 
 use causes::Cause;
-use device::Crate;
+use device::{Crate, OUTPUTS};
 use interlocks::OutputScan;
 use lines::Levels;
-use loader::Dataset;
+use loader::{Dataset, MEMORY_WORDS};
 
 // Power-up: a new crate, and a memory of zeros. A refused one gives a crate too, so the answer is a pair and no `Result` of a crate.
 #[tactic(auto, unfolding(crate::specs::Calls::powered, crate::specs::Calls::powered_memory, device::specs::State::memory0))]
@@ -38,10 +38,10 @@ pub fn read(state: &Crate, mem: &[u16], address: u16) -> Result<u16, Cause>
 
 // A scan of the six outputs: levels and words read.
 #[tactic(auto, unfolding(interlocks::specs::Scan::scan_of))]
-pub fn scan(state: &Crate, mem: &[u16]) -> Result<[OutputScan; 6], Cause>
+pub fn scan(state: &Crate, mem: &[u16]) -> Result<[OutputScan; OUTPUTS], Cause>
     ensures { result ≡ scan_of (machine state.now mem.now) }
 {
-    if mem.len() == 16384 {
+    if mem.len() == MEMORY_WORDS {
         Ok(interlocks::scan_outputs(state))
     } else {
         Err(Cause::Memory)
@@ -63,7 +63,7 @@ pub fn write(state: &mut Crate, mem: &mut [u16], address: u16, word: u16) -> Res
 pub fn tag(state: &mut Crate, mem: &[u16], t: u32) -> Result<(), Cause>
     ensures { (result ≡ answer (machine state.old mem.now) (call_tag t)) × (machine state.new mem.now ≡ step (machine state.old mem.now) (call_tag t)) }
 {
-    if mem.len() != 16384 {
+    if mem.len() != MEMORY_WORDS {
         return Err(Cause::Memory);
     }
     tagging::tag_crate(state, t)

@@ -6,7 +6,7 @@ use counters::Drive;
 use device::{Common, Crate, Events, Status};
 use gates::Gate;
 use lines::Levels;
-use loader::Reload;
+use loader::{MEMORY_WORDS, Reload};
 
 // Phases, queue and loader.
 #[tactic(auto, unfolding(crate::specs::Tick::common_tick))]
@@ -38,7 +38,7 @@ fn tick_status(status: &mut Status, rises: u64, gatelevels: u16, loader: Option<
 
 // One tick at levels of lines that exist.
 #[tactic(auto, unfolding(crate::specs::Tick::tick_of, gates::specs::Gate::outputs_of))]
-pub fn tick_crate(s: &mut Crate, mem: &[u16; 16384], levels: Levels)
+pub fn tick_crate(s: &mut Crate, mem: &[u16; MEMORY_WORDS], levels: Levels)
     ensures { s.new ≡ tick_of s.old mem.now levels.inputs levels.gates }
 {
     let loader = s.common.loader;

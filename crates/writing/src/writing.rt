@@ -9,9 +9,11 @@ ghost use Rattle.device.specs.State.{machine, with_common, with_counters, with_q
 ghost use Rattle.writing.specs.Write.{request_answer, triggers, reload_answer, reload_write, control_write, with_selected, settings_write, shared_answer, shared_clears, shared_write, gates_write, write_answer, reset_by, write_at};
 
 use causes::Cause;
-use device::{Common, Crate, GateWord, Register, SettingWord, Settings, SharedWord};
+use device::{
+    Common, Crate, GateWord, OUTPUT_WORDS, OUTPUTS, Register, SettingWord, Settings, SharedWord,
+};
 use gates::Gate;
-use loader::{Dataset, Request};
+use loader::{Dataset, MEMORY_WORDS, Request};
 
 // A request enters the queue, or is refused: dataset above 31, then 16 waiting.
 #[tactic(auto, using(bools::proofs::Tests::tests), unfolding(crate::specs::Write::request_answer))]
@@ -58,10 +60,15 @@ fn keep_selection(place: u16, word: u16) -> u16
 }
 
 // A word of an output's block set, and nothing past the end.
-fn write_selection(selections: &mut [[u16; 22]; 6], output: usize, place: usize, word: u16)
+fn write_selection(
+    selections: &mut [[u16; OUTPUT_WORDS]; OUTPUTS],
+    output: usize,
+    place: usize,
+    word: u16,
+)
     ensures { selections.new ≡ with_selected selections.old output place word }
 {
-    if output < 6 {
+    if output < OUTPUTS {
         lists::change(&mut selections[output], place, |_| word);
     }
 }
@@ -121,7 +128,12 @@ fn write_gates(gates: &mut [Gate; 12], q: GateWord, word: u16)
 
 // What a write answers, and does to the crate and the memory; a refused one leaves both.
 #[tactic(auto, using(lists::proofs::Sweep::get_d_any), unfolding(crate::specs::Write::write_at, crate::specs::Write::write_answer, device::specs::Map::kept, counters::specs::Counter::counter_at))]
-pub fn write_at(s: &mut Crate, mem: &mut [u16; 16384], r: Register, word: u16) -> Result<(), Cause>
+pub fn write_at(
+    s: &mut Crate,
+    mem: &mut [u16; MEMORY_WORDS],
+    r: Register,
+    word: u16,
+) -> Result<(), Cause>
     ensures { (result ≡ write_answer s.old.common r word) × (machine s.new mem.new ≡ write_at (machine s.old mem.old) r word) }
 {
     match r {
