@@ -4,7 +4,6 @@ use Prim.Native.Nat.{ℕ}
 use mathlib.Core.Bool.{Bool, true}
 use mathlib.Core.List.{List, [], ◌∷◌, ◌++◌, append_assoc}
 use mathlib.Core.Path.{◌≡◌, refl, sym, ap, subst, ◌∙◌}
-use borrow.Author.Tests.{eq-eqb}
 use Rattle.std.proofs.Common.{Ok}
 use Rattle.lists.proofs.Tables.{length_tabulate}
 use Rattle.loader.specs.Memory.{is_whole}
@@ -16,6 +15,7 @@ use Rattle.reading.specs.Read.{read_of}
 use Rattle.records.specs.Stops.{stop_number}
 use Rattle.registers.specs.Calls.{Call, after, answer, from, machine0, powered, powered_memory}
 use Rattle.registers.proofs.Lists.{from_append}
+use Rattle.registers.proofs.Whole.{is_whole_lem}
 use Rattle.sheet.proofs.Theorems.{run_halts, run_is_list}
 use Rattle.trace.specs.Run.{Run, machine_of, progress_of, run, run_of}
 use Rattle.demands.specs.Returned.{Acted, Powered, Rehearsed, Saw, Went}
@@ -92,7 +92,7 @@ go_can m (x ∷ l) = (
 
 whole_start : is_whole memory0 ≡ true
 unfolding memory0
-whole_start = eq-eqb _ _ (length_tabulate 16384 _)
+whole_start = is_whole_lem memory0 (length_tabulate 16384 _)
 
 pub rehearsable : (l : List Act) → Saw l (seen_of l) (after (list_of l))
 unfolding Saw seen_of after list_of powered powered_memory

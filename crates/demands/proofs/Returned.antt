@@ -4,7 +4,6 @@ use Prim.Native.Nat.{ℕ, suc, ◌+◌, ◌*◌, ◌/◌, ◌≤◌, ◌<◌}
 use mathlib.Core.Bool.{true, false}
 use mathlib.Core.List.{List, [], ◌∷◌, ◌++◌}
 use mathlib.Core.Path.{◌≡◌, refl, sym, ap, subst, ◌∙◌}
-use borrow.Author.Tests.{eq-eqb}
 use lib.ListN.{get_or, length}
 use Rattle.std.proofs.Common.{Result, Ok, Some}
 use Rattle.words.specs.Word.{bit}
@@ -22,6 +21,7 @@ use Rattle.reading.specs.Read.{low_first, read_of, word_shown}
 use Rattle.records.specs.Stops.{stop_number}
 use Rattle.registers.specs.Calls.{Call, write, accepted_ticks, after, answer, from, left_by_refusal, machine0, refusals, step}
 use Rattle.registers.proofs.Lists.{from_append}
+use Rattle.registers.proofs.Whole.{is_whole_lem}
 use Rattle.sheet.specs.Follows.{follows_at}
 use Rattle.sheet.specs.Lines.{Holds, Lines, own_lines}
 use Rattle.sheet.specs.OwnPart.{Cut, own_part, own_part_of}
@@ -92,7 +92,7 @@ module _ (l : List Act) (n : Machine) (h : Rehearsed l n) where
   pub code_scan_ends : (q : Result (List OutputScan) Cause) → Scanned n q → (o : ℕ) → o < 6 → (scan_at q o).level ≡ false →
       trips n.state o (scan_at q o).words ≡ true
   code_scan_ends q scan o b =
-      let whole : is_whole n.memory ≡ true = rw (rehearsed l n h) (eq-eqb _ _ (full_after (list_of l))) in
+      let whole : is_whole n.memory ≡ true = rw (rehearsed l n h) (is_whole_lem (after (list_of l)).memory (full_after (list_of l))) in
       rw scan (scan_ends n o b whole)
 
   -- a write that `write` accepted, and a read after it

@@ -5,7 +5,6 @@ use native.Mathlib.Omega.{arith}
 use mathlib.Core.Bool.{true, false}
 use mathlib.Core.List.{List, ◌∷◌, ◌++◌}
 use mathlib.Core.Path.{◌≡◌, sym, subst, ◌∙◌}
-use borrow.Author.Tests.{eq-eqb}
 use lib.ListN.{get_or, length}
 use Rattle.std.proofs.Common.{Result, Ok, Some}
 use Rattle.bools.specs.Pick.{pick}
@@ -24,6 +23,7 @@ use Rattle.reading.specs.Read.{low_first, read_of, word_shown}
 use Rattle.records.specs.Stops.{stop_number}
 use Rattle.records.specs.Records.{record_at}
 use Rattle.registers.specs.Calls.{Call, write, accepted_ticks, after, left_by_refusal, machine0, powered, powered_memory, refusals, step}
+use Rattle.registers.proofs.Whole.{is_whole_lem}
 use Rattle.sheet.specs.Follows.{follows_at}
 use Rattle.sheet.specs.Lines.{Holds, Lines, own_lines}
 use Rattle.sheet.specs.OwnPart.{Cut, own_part, own_part_of}
@@ -116,7 +116,7 @@ module _ (l : List Act) (t : List ℕ) (budget : ℕ) (more : List Act) (seen : 
 
   -- the cause by which the record at the next offset stops it,
   pub seen_cause : stopped r.stop ≡ fate_of t r.next (budget - r.ticks)
-  seen_cause = rw seen_report (passing.run_cause t budget given (eq-eqb _ _ (full_after (list_of l))))
+  seen_cause = rw seen_report (passing.run_cause t budget given (is_whole_lem (after (list_of l)).memory (full_after (list_of l))))
 
   -- the offset behind the records that it passed,
   pub seen_next : r.next ≡ bytes_in (passed_in t budget given)

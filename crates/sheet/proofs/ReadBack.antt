@@ -14,7 +14,7 @@ use Rattle.std.proofs.lemmas.Grind.{common_steps}
 use Rattle.bools.specs.Pick.{pick}
 use Rattle.std.proofs.Common.{Ok, Err, Option, Some, None}
 use Rattle.std.specs.Option.{option_map_or}
-use Rattle.words.specs.Word.{bit, fields, pack}
+use Rattle.words.specs.Word.{bit, pack}
 use Rattle.words.proofs.Fields.{bit_low}
 use Rattle.words.proofs.Gather.{pack_ext, pack_is}
 use Rattle.words.proofs.Packing.{bit_past}
@@ -25,17 +25,17 @@ use Rattle.counters.specs.declared.counter.Counter.{Counter}
 use Rattle.gates.specs.declared.gate.Gate.{Gate}
 use Rattle.watchdogs.specs.declared.watchdog.Watchdog.{Watchdog}
 use Rattle.gates.specs.Gate.{each_gate, failed, gate0, gate_at, gate_bits, is_error, mode, outputs_of, prepare, recover}
-use Rattle.gates.specs.Gate.{state_number, state_word, with_mode, with_prepare, with_recover, with_timeout}
+use Rattle.gates.specs.Gate.{state_word, with_mode, with_prepare, with_recover, with_timeout}
 use Rattle.counters.specs.Counter.{clear_counters, cleared, counter0, counter_at, is_over, is_under, overflow_word, reset_on, with_input}
 use Rattle.loader.specs.Loader.{busy}
 use Rattle.loader.specs.Memory.{word_at}
-use Rattle.watchdogs.specs.Watchdog.{error_of, reset_in, reset_of, reset_watchdogs, watchdog0, watchdog_at, watchdog_word, with_reset}
+use Rattle.watchdogs.specs.Watchdog.{reset_in, reset_of, reset_watchdogs, watchdog0, watchdog_at, watchdog_word, with_reset}
 use Rattle.device.specs.declared.map.Register.{Register}
 use Rattle.device.specs.declared.map.Register.TheVariants.{Readout, Setting, Shared, Gates, Watchdogs, Input, Group, Word}
 use Rattle.device.specs.declared.map.GateWord.{GateWord}
 use Rattle.device.specs.declared.map.GateWord.TheVariants.{Mode, Timeout, Prepare, Recover}
 use Rattle.device.specs.declared.map.ReadoutWord.{ReadoutWord}
-use Rattle.device.specs.declared.map.ReadoutWord.TheVariants.{Negative, Positive, GateErrors, WatchdogErrors, GateOutputs, Outputs, GateStates, LoaderState, Count, Threshold}
+use Rattle.device.specs.declared.map.ReadoutWord.TheVariants.{Negative, Positive, Outputs, Count}
 use Rattle.device.specs.declared.map.SettingWord.{SettingWord}
 use Rattle.device.specs.declared.map.SettingWord.TheVariants.{Mask, WatchdogTimeout, Selection}
 use Rattle.device.specs.declared.map.SharedWord.{SharedWord}
@@ -205,8 +205,7 @@ outputs_settings p w s f = refl
 readout_settings : (p : SettingWord) (w : ℕ) (s : Crate) (q : ReadoutWord) → follows (Setting p) (Readout q) ≡ false →
     readout_word (with_settings s (settings_write p w s.settings)) q ≡ readout_word s q
 unfolding readout_word
-readout_settings p w s Outputs f = outputs_settings p w s f
-readout_settings p w s q f = refl
+readout_settings p w s q f = grind (arith, outputs_settings)
 
 -- ---- gates: of state and output no write changes anything
 
@@ -269,11 +268,7 @@ outputs_gates s x e = λ i.
 
 readout_gates : (p : GateWord) (s : Crate) (x : List Gate) → GatesApart p x s.gates → (q : ReadoutWord) → readout_word (with_gates s x) q ≡ readout_word s q
 unfolding readout_word gate_bits outputs_of state_word
-readout_gates p s x h GateErrors = λ i. pack 12 (λ g. is_error ((h g).state i))
-readout_gates p s x h GateOutputs = λ i. pack 12 (λ g. (h g).output i)
-readout_gates p s x h (GateStates k) = λ i. fields 4 4 (λ j. state_number ((h (4 * k + j)).state i))
-readout_gates p s x h Outputs = outputs_gates s x (λ g. (h g).state)
-readout_gates p s x h q = refl
+readout_gates p s x h q = grind (arith, outputs_gates)
 
 -- ---- watchdogs: those of the word that is written
 
@@ -288,9 +283,7 @@ watchdogs_other f k w xs size j d =
 readout_watchdogs : (k w : ℕ) (s : Crate) → length s.watchdogs ≡ 54 → (q : ReadoutWord) → follows (Watchdogs k) (Readout q) ≡ false →
     readout_word (with_watchdogs s (reset_watchdogs k w s.watchdogs)) q ≡ readout_word s q
 unfolding readout_word
-readout_watchdogs k w s size (WatchdogErrors j) f = watchdogs_other error_of k w s.watchdogs size j (eqb-false j k f)
-readout_watchdogs k w s size Outputs f = absurd (true≢false f)
-readout_watchdogs k w s size q f = refl
+readout_watchdogs k w s size q f = grind (arith, watchdogs_other)
 
 -- ---- counters: RESET, or one counter's input register
 
@@ -348,9 +341,7 @@ unfolding readout_word overflow_word
 readout_counters r s x h o (Negative k) f = λ i. pack 16 (λ b. (h (16 * k + b)).under k f i)
 readout_counters r s x h o (Positive k) f = λ i. pack 16 (λ b. (h (16 * k + b)).over k f i)
 readout_counters r s x h o (Count k) f = ap (half_of k) ((h (k / 2)).count k f)
-readout_counters r s x h o (Threshold k) f = λ i. half_of k (pick (ltb (k % 4) 2) ((h (k / 4)).positive i) ((h (k / 4)).negative i))
-readout_counters r s x h o Outputs f = o f
-readout_counters r s x h o q f = refl
+readout_counters r s x h o q f = grind arith
 
 -- every counter keeps its input register when counts are cleared, and the others when one is written
 input_kept : (p : SharedWord) (w : ℕ) (xs : List Counter) → length xs ≡ 128 → (n : ℕ) → (counter_at (shared_clears p w xs) n).input ≡ (counter_at xs n).input
@@ -387,13 +378,11 @@ busy_same p w cm = refl
 
 readout_common : (s : Crate) (x : Common) → busy x.loader ≡ busy s.common.loader → (q : ReadoutWord) → readout_word (with_common s x) q ≡ readout_word s q
 unfolding readout_word interlocks trips signals
-readout_common s x e LoaderState = λ i. pick (e i) 3 0
-readout_common s x e q = refl
+readout_common s x e q = grind arith
 
 readout_groups : (s : Crate) (x : List ℕ) (q : ReadoutWord) → readout_word (with_groups s x) q ≡ readout_word s q
 unfolding readout_word interlocks trips signals
-readout_groups s x Outputs = refl
-readout_groups s x q = refl
+readout_groups s x q = grind arith
 
 -- ---- so a read of any other register gives what it gave, but for the side effects that `follows` names
 
