@@ -25,7 +25,7 @@ use Rattle.registers.proofs.Whole.{is_whole_lem}
 use Rattle.sheet.specs.Follows.{follows_at}
 use Rattle.sheet.specs.Lines.{Holds, Lines, own_lines}
 use Rattle.sheet.specs.OwnPart.{Cut, own_part, own_part_of}
-use Rattle.sheet.specs.Raw.{levels_of, raw_count}
+use Rattle.sheet.specs.InputRises.{levels_of, raw_count}
 use Rattle.sheet.specs.Reachable.{OfWords, Reached}
 use Rattle.sheet.specs.Requests.{Stands, finished, request_made, stand_after, waits}
 use Rattle.sheet.specs.Scans.{scan_at}

@@ -19,7 +19,7 @@ use Rattle.lists.specs.Table.{any}
 use Rattle.lists.proofs.Tables.{all_answer, any_each, each_stays, each_then, get_or_each}
 use Rattle.lines.specs.Leap.{leap_phases, low_phases, phase_after, phase_total, rises_in}
 use Rattle.lines.specs.Lines.{frequencies, frequency, phase_limit, phase_step, phase_sum, rise_of, rises_of, step_phases, test_rise}
-use Rattle.lines.specs.Raw.{count_rises}
+use Rattle.lines.specs.RawCounts.{count_rises}
 use Rattle.lines.proofs.RiseWord.{at_most_total, frequency_le}
 
 -- ---- one test signal

@@ -8,7 +8,7 @@ use Rattle.counters.specs.declared.counter.Counter.{Counter}
 use Rattle.counters.specs.Counter.{counter_at, is_over, is_under, overflow_word}
 use Rattle.gates.specs.declared.gate.Gate.{Gate}
 use Rattle.gates.specs.Gate.{failed, gate_at, gate_bits, mode, outputs_of, prepare, recover, state_word}
-use Rattle.lines.specs.Raw.{raw_at}
+use Rattle.lines.specs.RawCounts.{raw_at}
 use Rattle.loader.specs.Loader.{busy}
 use Rattle.loader.specs.Memory.{is_whole, word_at}
 use Rattle.watchdogs.specs.Watchdog.{error_of, reset_of, watchdog_word}

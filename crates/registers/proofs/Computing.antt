@@ -7,7 +7,7 @@ use Rattle.lists.specs.Table.{table_from, tabulate, each, any, least}
 use Rattle.counters.specs.Counter.{counter_step, counter_tick, tick_counters, clear_counters, counter_at, overflow_word}
 use Rattle.gates.specs.Gate.{gate_step, each_gate, gate_at, gate_bits, outputs_of, state_word}
 use Rattle.lines.specs.Lines.{bad_levels, rise_of, rises_of, step_phases}
-use Rattle.lines.specs.Raw.{count_rises}
+use Rattle.lines.specs.RawCounts.{count_rises}
 use Rattle.loader.specs.Loader.{pushed, oldest, dropped, loader_step, queue_step, group_at, load_into}
 use Rattle.loader.specs.Memory.{word_at, loaded, replaced}
 use Rattle.watchdogs.specs.Watchdog.{watchdog_step, step_watchdogs, with_reset, reset_in, reset_watchdogs, watchdog_at, watchdog_word}

@@ -10,7 +10,7 @@ pub mod Kept
 pub mod OwnTag
 pub mod OwnCases
 pub mod Projection
-pub mod Raw
+pub mod RawReads
 pub mod Reached
 pub mod ReadBack
 pub mod Scans

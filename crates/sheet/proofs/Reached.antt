@@ -23,7 +23,7 @@ use Rattle.watchdogs.specs.declared.watchdog.Watchdog.{Watchdog}
 use Rattle.counters.specs.Counter.{clear_counters, cleared, counter0, counter_at, counter_step, counter_tick, reset_on, tick_counters, with_input}
 use Rattle.gates.specs.Gate.{each_gate, gate0, gate_at, gate_step, with_mode, with_prepare, with_prepare_pulse, with_recover, with_recover_pulse, with_timeout}
 use Rattle.lines.specs.Lines.{bad_levels, phase_limit}
-use Rattle.lines.specs.Raw.{count_rises, raw_at}
+use Rattle.lines.specs.RawCounts.{count_rises, raw_at}
 use Rattle.loader.specs.Loader.{request_for}
 use Rattle.loader.specs.Memory.{loaded, replaced, word_at}
 use Rattle.watchdogs.specs.Watchdog.{reset_in, reset_watchdogs, step_watchdogs, watchdog0, watchdog_at, watchdog_top, with_reset}

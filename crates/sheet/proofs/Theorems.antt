@@ -26,7 +26,7 @@ use Rattle.trace.proofs.Listed as listing
 use Rattle.sheet.specs.Follows.{follows_at}
 use Rattle.sheet.specs.Lines.{Holds, Lines, own_lines}
 use Rattle.sheet.specs.OwnPart.{Cut, Part, own_part, own_part_of}
-use Rattle.sheet.specs.Raw.{levels_of, raw_count, rises_in}
+use Rattle.sheet.specs.InputRises.{levels_of, raw_count, rises_in}
 use Rattle.sheet.specs.Reachable.{OfWords, Reached}
 use Rattle.sheet.specs.Requests.{Stands, finished, request_made, stand_after, waits}
 use Rattle.sheet.specs.Scans.{scan_at}
@@ -37,7 +37,7 @@ use Rattle.sheet.proofs.Addresses as placing
 use Rattle.sheet.proofs.Finishes as finishing
 use Rattle.sheet.proofs.Isolation as isolating
 use Rattle.sheet.proofs.Kept.{holds_all}
-use Rattle.sheet.proofs.Raw as counting
+use Rattle.sheet.proofs.RawReads as counting
 use Rattle.sheet.proofs.ReadBack as reading
 use Rattle.sheet.proofs.Reached as reaching
 use Rattle.sheet.proofs.Scans as scanning

@@ -1,7 +1,7 @@
 pub mod Follows
+pub mod InputRises
 pub mod Lines
 pub mod OwnPart
-pub mod Raw
 pub mod Reachable
 pub mod Requests
 pub mod Scans

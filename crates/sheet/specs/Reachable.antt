@@ -8,7 +8,7 @@ use Rattle.loader.specs.declared.loader.Request.{Request}
 use Rattle.counters.specs.Counter.{counter_at, reset_on}
 use Rattle.gates.specs.Gate.{gate_at, timeout_unit}
 use Rattle.lines.specs.Lines.{gate_count, input_count, phase_limit}
-use Rattle.lines.specs.Raw.{raw_at}
+use Rattle.lines.specs.RawCounts.{raw_at}
 use Rattle.loader.specs.Loader.{Queue, request0}
 use Rattle.loader.specs.Memory.{memory_words, word_at}
 use Rattle.watchdogs.specs.Watchdog.{watchdog_at, watchdog_top}

@@ -5,7 +5,7 @@ use Rattle.loader.specs.declared.loader.Reload.{Reload}
 use Rattle.counters.specs.Counter.{tick_counters}
 use Rattle.gates.specs.Gate.{gate_step, each_gate, outputs_of}
 use Rattle.lines.specs.Lines.{rises_of, step_phases}
-use Rattle.lines.specs.Raw.{count_rises}
+use Rattle.lines.specs.RawCounts.{count_rises}
 use Rattle.loader.specs.Loader.{load_into, loader_step, queue_step}
 use Rattle.watchdogs.specs.Watchdog.{step_watchdogs}
 use Rattle.device.specs.declared.state.Common.{Common}

@@ -15,7 +15,7 @@ use Rattle.gates.specs.declared.gate.GateState.{GateState}
 use Rattle.gates.specs.declared.gate.GateState.TheVariants.{Idle, Prepare, Open, Waiting, Error, Recover, Direct}
 use Rattle.counters.specs.Counter.{counter0, counter_step, with_count}
 use Rattle.gates.specs.Gate.{gate_step, state_number}
-use Rattle.lines.specs.Raw.{raw_step}
+use Rattle.lines.specs.RawCounts.{raw_step}
 use Rattle.device.specs.declared.map.Register.{Register}
 use Rattle.causes.specs.Causes.{number_of}
 use Rattle.registers.specs.Calls.{Call, tick, write, tag, download, answer, after, step, machine0, powered, powered_memory}

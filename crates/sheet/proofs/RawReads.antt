@@ -13,7 +13,7 @@ use Rattle.words.proofs.Packing.{bit_pack, bit_zero}
 use Rattle.bools.proofs.Tests.{cases}
 use Rattle.lists.proofs.Tables.{get_or_each, get_d_tabulate}
 use Rattle.lines.specs.Lines.{bad_levels, input_rise, rise_of, rises_of}
-use Rattle.lines.specs.Raw.{count_rises, raw_at, raw_step}
+use Rattle.lines.specs.RawCounts.{count_rises, raw_at, raw_step}
 use Rattle.device.specs.declared.map.Register.TheVariants.{Readout}
 use Rattle.device.specs.declared.map.ReadoutWord.TheVariants.{Raw}
 use Rattle.device.specs.declared.state.Crate.{Crate}
@@ -24,7 +24,7 @@ use Rattle.device.specs.State.{Machine, power_up, with_state}
 use Rattle.ticking.specs.Tick.{status_tick, tick_of}
 use Rattle.writing.specs.Write.{write_at}
 use Rattle.registers.proofs.Whole.{WholeMemory, full, read_whole, step_called}
-use Rattle.sheet.specs.Raw.{levels_of, raw_count, rises_in}
+use Rattle.sheet.specs.InputRises.{levels_of, raw_count, rises_in}
 use Rattle.registers.proofs.Keeping.{Change, Keeps, Untimed, changed, step_keeps, timed, written}
 use Rattle.sheet.proofs.Sizes.{full_after, sized_start}
 
