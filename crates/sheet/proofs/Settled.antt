@@ -8,7 +8,7 @@ use mathlib.Core.List.{List, [], ◌∷◌}
 use mathlib.Core.Path.{◌≡◌, refl, sym, ap, ◌∙◌}
 use borrow.Author.Tests.{eqb-true, not-false, not-true}
 use lib.Dec.{eqb}
-use lib.IntN.{pos}
+use lib.IntN.{ℤ, pos}
 use lib.ListN.{get_or, length, length-set, set}
 use lib.Seq.{ext_get_or, set-get_or}
 use Rattle.std.proofs.Common.{Option}
@@ -142,7 +142,7 @@ command_same s f t =
     idle_pick (eqb (command_of t) 1) (λ e. ap (put_common s) (refused_same t s.common e))
     (idle_pick (eqb (command_of t) 2) (λ e. ap (put_gates s) (pulses_same with_prepare_pulse prepare_pulse no_prepare t s.gates f.gates e))
     (idle_pick (eqb (command_of t) 3) (λ e. ap (put_gates s) (pulses_same with_recover_pulse recover_pulse no_recover t s.gates f.gates e))
-    (λ e. rw (not-true (eqb (command_of t) 4) e) refl)))
+    (idle_pick (eqb (command_of t) 4) (λ e. ap (λ (z : ℤ). put_counter s (with_count s.counter z)) (sym (f.reset e))) (λ e. refl))))
 
 tag_same : (s : Sheet) → Formed s → (t : ℕ) → idle_tag s t ≡ true → sheet_tag s t ≡ s
 unfolding idle_tag sheet_tag

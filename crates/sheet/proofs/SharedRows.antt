@@ -56,11 +56,12 @@ shared_rows =
     ∷ row 31 (more (tag 0xBEEF_3004 ∷ tick 0 0x1000 ∷ tag 0xBEEF_3004 ∷ []))
     ∷ row 33 (more (tag 0xBEEF_2004 ∷ tick 0 0 ∷ tag 0xBEEF_2004 ∷ []))
     ∷ row 22 (more (tag 0xBEEF_2004 ∷ tag 0xBEEF_3004 ∷ []))
-    -- tags with a wrong key, with events off, of commands that do nothing; command 0x4
+    -- tags with a wrong key, with events off, of commands that do nothing; command 0x4, with RESET clear and set
     ∷ row 10 (more (tag 0xBEEE_4000 ∷ []))
     ∷ row 21 (more (write 0x0A01 0x0000 ∷ tag 0xBEEF_4000 ∷ []))
     ∷ row 30 (more (tag 0xBEEF_0004 ∷ tag 0xBEEF_5004 ∷ tag 0xBEEF_F004 ∷ []))
     ∷ row 11 (more (tag 0xBEEF_4000 ∷ []))
+    ∷ row 21 (more (write 0x0801 0x0001 ∷ tag 0xBEEF_4000 ∷ []))
     -- requests by tag, dataset 31 and, refused 4, dataset 32; by register, also 0x0A02 as it stands
     ∷ row 21 (more (tag 0xBEEF_101F ∷ tag 0xBEEF_1020 ∷ []))
     ∷ row 33 (more (write 0x0A02 0x0000 ∷ write 0x0A02 0x1000 ∷ write 0x0A02 0x1000 ∷ []))

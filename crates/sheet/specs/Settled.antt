@@ -6,6 +6,7 @@ use Rattle.std.specs.Prelude.{ℕ, ◌+◌, ◌*◌, Bool, false, true, not, ◌
 use Rattle.bools.specs.Pick.{pick}
 use Rattle.words.specs.Word.{bit}
 use Rattle.lists.specs.Table.{any}
+use Rattle.counters.specs.Counter.{reset_on}
 use Rattle.gates.specs.declared.gate.Gate.{Gate}
 use Rattle.gates.specs.Gate.{gate_at, gate_bits, mode, prepare, recover}
 use Rattle.lines.specs.Lines.{gate_count}
@@ -37,14 +38,14 @@ recover_pulse g = g.recoverpulse
 unfoldable pub all_pulsed : (Gate → Bool) → ℕ → List Gate → Bool
 all_pulsed pulse t gates = every gate_count (λ g. pulse (gate_at gates g) || not (bit t g))
 
--- a command that leaves the sheet: 0x1 where cause 4 refuses its request, whatever the queue holds; 0x2 and 0x3 where all is pulsed; not 0x4,
--- which may clear the count; "Commands 0x0 and 0x5 to 0xF do nothing"
+-- a command that leaves the sheet: 0x1 where cause 4 refuses its request, whatever the queue holds; 0x2 and 0x3 where all is pulsed; 0x4
+-- while RESET is set, as "all counts are 0"; "Commands 0x0 and 0x5 to 0xF do nothing"
 unfoldable pub idle_command : Sheet → ℕ → Bool
 idle_command s t =
     pick (eqb (command_of t) 1) (is_beyond (dataset_in t))
     (pick (eqb (command_of t) 2) (all_pulsed prepare_pulse t s.gates)
     (pick (eqb (command_of t) 3) (all_pulsed recover_pulse t s.gates)
-    (not (eqb (command_of t) 4))))
+    (pick (eqb (command_of t) 4) (reset_on s.common.control) true)))
 
 -- "A tag is passed over if events are off", "on a wrong key nothing more happens"
 unfoldable pub idle_tag : Sheet → ℕ → Bool
