@@ -41,11 +41,11 @@ use Rattle.device.specs.declared.state.Status.{Status}
 use Rattle.causes.specs.Causes.{is_done}
 use Rattle.registers.specs.Calls.{Call, download, after, machine0}
 use Rattle.device.specs.Map.{kept, used_bits}
-use Rattle.device.specs.State.{Machine, common0, memory0, power_up, with_groups, with_memory, with_registers, with_settings, with_state, with_watchdogs}
+use Rattle.device.specs.State.{Machine, common0, memory0, power_up, with_registers, with_state}
 use Rattle.interlocks.specs.Interlock.{selected}
 use Rattle.tagging.specs.Tag.{tag_request}
 use Rattle.ticking.specs.Tick.{common_tick, status_tick, tick_of}
-use Rattle.writing.specs.Write.{control_write, dataset_in, enable_write, group_in, key_write, on_common, on_counters, on_gates, reload_answer, reload_write, request_answer, requested, reset_by, gates_write, settings_write, shared_write, with_reload, with_selected, write_at}
+use Rattle.writing.specs.Write.{control_write, dataset_in, enable_write, group_in, key_write, on_common, on_counters, reload_answer, reload_write, request_answer, requested, reset_by, gates_write, settings_write, shared_write, with_reload, with_selected, write_at}
 use Rattle.registers.proofs.Keeping.{Any, Change, Keeps, asked, changed, cleared_all, list_keeps, noted, prepared, recovered, written}
 use Rattle.registers.proofs.Whole.{WholeMemory, accepted, length_replaced}
 use Rattle.sheet.specs.Reachable.{CommonInRange, CounterInRange, GateInRange, OfWords, Reached, SettingsInRange, StatusInRange}
@@ -198,30 +198,22 @@ gates_in (Timeout k) w gates h = timeout_in gates h k w
 gates_in Prepare w gates h = gates_in_lem with_prepare (λ b g h. assumption) w gates h
 gates_in Recover w gates h = gates_in_lem with_recover (λ b g h. assumption) w gates h
 
--- ---- calls: one law for each change of the machine
+-- one 16-bit word of a list is written
+words_in : (xs : List ℕ) (k w : ℕ) → w < 2 ^ 16 → ((i : ℕ) → get_or xs i 0 < 2 ^ 16) → (i : ℕ) → get_or (set xs k w) i 0 < 2 ^ 16
+words_in xs k w l h = all_set 0 (λ i n. n < 2 ^ 16) (λ i. lit< tt) xs k w l h
+
+memory_in : (memory : List ℕ) (k w : ℕ) → w < 2 ^ 16 → ((a : ℕ) → word_at memory a < 2 ^ 16) → (a : ℕ) → word_at (set memory k w) a < 2 ^ 16
+unfolding word_at
+memory_in memory k w l h = words_in memory k w l h
+
+-- ---- what all counters share and the counters, which RESET binds
 
 reached_common : (m : Machine) → Reached m → (x : Common) → CommonInRange x → x.control ≡ m.state.common.control → Reached (on_common m x)
 reached_common m h x p e = grind arith
 
-reached_settings : (m : Machine) → Reached m → (x : Settings) → SettingsInRange x → Reached (with_state m (with_settings m.state x))
-reached_settings m h x p = assumption
-
-reached_watchdogs : (m : Machine) → Reached m → (x : List Watchdog) → ((i : ℕ) → (watchdog_at x i).value ≤ watchdog_top) →
-    Reached (with_state m (with_watchdogs m.state x))
-reached_watchdogs m h x p = assumption
-
-reached_gates : (m : Machine) → Reached m → (x : List Gate) → ((g : ℕ) → GateInRange (gate_at x g)) → Reached (on_gates m x)
-reached_gates m h x p = assumption
-
 reached_counters : (m : Machine) → Reached m → (x : List Counter) → ((n : ℕ) → CounterInRange (counter_at x n)) →
     (reset_on m.state.common.control ≡ true → (n : ℕ) → AtZero (counter_at x n)) → Reached (on_counters m x)
 reached_counters m h x p z = assumption
-
-reached_groups : (m : Machine) → Reached m → (x : List ℕ) → ((k : ℕ) → get_or x k 0 < 2 ^ 16) → Reached (with_state m (with_groups m.state x))
-reached_groups m h x p = assumption
-
-reached_memory : (m : Machine) → Reached m → (x : List ℕ) → WholeMemory x → ((a : ℕ) → word_at x a < 2 ^ 16) → Reached (with_memory m x)
-reached_memory m h x e p = assumption
 
 -- command 0x4 and RESET
 reached_clear : (m : Machine) → Reached m → Reached (on_counters m (clear_counters m.state.counters))
@@ -322,20 +314,18 @@ replaced_in memory d words size n d< p q a = grind (arith, common_steps)
 
 reached_changed : (m : Machine) → Reached m → (x : Change) → Reached (changed m x)
 unfolding write_at
-reached_changed m h (written (Setting q) w) = reached_settings m h _ (settings_in q w m.state.settings h.settings)
+reached_changed m h (written (Setting q) w) = assumption (settings_in q w m.state.settings h.settings)
 reached_changed m h (written (Shared q) w) = reached_shared m h q w
-reached_changed m h (written (Gates q) w) = reached_gates m h _ (gates_in q w m.state.gates h.gates)
-reached_changed m h (written (Watchdogs k) w) = reached_watchdogs m h _ (resets_in k w m.state.watchdogs h.watchdogs)
+reached_changed m h (written (Gates q) w) = assumption (gates_in q w m.state.gates h.gates)
+reached_changed m h (written (Watchdogs k) w) = assumption (resets_in k w m.state.watchdogs h.watchdogs)
 reached_changed m h (written (Input n) w) = reached_input m h n w
-reached_changed m h (written (Group k) w) =
-    reached_groups m h _ (all_set 0 (λ i n. n < 2 ^ 16) (λ i. lit< tt) m.state.groups k _ (kept_lt (Group k) w) h.groups)
+reached_changed m h (written (Group k) w) = assumption (words_in m.state.groups k (kept (Group k) w) (kept_lt (Group k) w) h.groups)
 reached_changed m h (written (Word i) w) =
-    reached_memory m h _ (length-set m.memory i _ ∙ h.memory)
-    (unfold word_at in (all_set 0 (λ i n. n < 2 ^ 16) (λ i. lit< tt) m.memory i _ (kept_lt (Word i) w) h.words))
+    assumption (length-set m.memory i (kept (Word i) w) ∙ h.memory, memory_in m.memory i (kept (Word i) w) (kept_lt (Word i) w) h.words)
 reached_changed m h (noted t) = grind arith
 reached_changed m h (asked t) = reached_common m h _ (tag_request_in t m.state.common h.common) (tag_control t m.state.common)
-reached_changed m h (prepared t) = reached_gates m h _ (gates_in_lem with_prepare_pulse (λ b g h. assumption) t m.state.gates h.gates)
-reached_changed m h (recovered t) = reached_gates m h _ (gates_in_lem with_recover_pulse (λ b g h. assumption) t m.state.gates h.gates)
+reached_changed m h (prepared t) = assumption (gates_in_lem with_prepare_pulse (λ b g h. assumption) t m.state.gates h.gates)
+reached_changed m h (recovered t) = assumption (gates_in_lem with_recover_pulse (λ b g h. assumption) t m.state.gates h.gates)
 reached_changed m h cleared_all = reached_clear m h
 reached_changed m h x = h
 
@@ -350,7 +340,7 @@ reached_keeps = record {
   tick = λ m h inputs gates c good. reached_tick m h inputs gates good;
   download = λ m h d words c e.
       let a = accepted d (length words) e in
-      reached_memory m h _ (length_replaced m.memory d words h.memory e) (replaced_in m.memory d words h.memory a.0 a.1 h.words c);
+      assumption (length_replaced m.memory d words h.memory e, replaced_in m.memory d words h.memory a.0 a.1 h.words c);
 }
 
 first_of_words : (x : Call) (l : List Call) → OfWords (x ∷ l) → (WordsOf x) × (OfWords l)
