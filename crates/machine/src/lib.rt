@@ -9,12 +9,16 @@ ghost use Rattle.registers.specs.Calls.{machine0};
 ghost use Rattle.trace.specs.Run.{progress_of, run as run_run, run_of};
 
 use device::Crate;
+use loader::MEMORY_WORDS;
 use trace::Report;
+
+// The ticks that a program's run may take.
+pub const PROGRAM_TICKS: u64 = 1_000_000;
 
 #[derive(Drop)]
 pub struct Machine {
     pub state: Crate,
-    pub mem: [u16; 16384],
+    pub mem: [u16; MEMORY_WORDS],
 }
 
 impl Machine {
@@ -22,7 +26,7 @@ impl Machine {
     pub fn new() -> Machine
         ensures { held result ≡ machine0 }
     {
-        let mut mem = [0; 16384];
+        let mut mem = [0; MEMORY_WORDS];
         let (state, _answer) = registers::power_up(&mut mem);
         Machine { state, mem }
     }

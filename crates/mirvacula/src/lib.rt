@@ -6,6 +6,7 @@ ghost use Rattle.std.specs.Prelude.{false, ◌≡◌, eqb};
 ghost use Rattle.bools.specs.Pick.{pick};
 ghost use Rattle.captures.specs.Captures.{frame_in};
 ghost use Rattle.device.specs.State.{machine};
+ghost use Rattle.loader.specs.Memory.{memory_words};
 ghost use Rattle.mirvacula.specs.Converting.{answered, convert_of, unanswered};
 ghost use Rattle.lent.specs.Lent.{bad_buffer};
 ghost use Rattle.lent.specs.Sums.{lent_sample, lent_start, sum_sample_of, sum_start_of};
@@ -17,9 +18,10 @@ ghost use Rattle.trace.specs.Run.{progress_of, run as run_run};
 
 use captures::Refusal;
 use causes::Cause;
-use device::Crate;
+use device::{Crate, OUTPUTS};
 use interlocks::OutputScan;
 use lent::BAD_BUFFER;
+use loader::MEMORY_WORDS;
 use trace::Report;
 
 // The report as five numbers, as the C interface needs them.
@@ -45,11 +47,14 @@ fn put_image(out: &mut [u16; 0x1400], state: &Crate, mem: &[u16])
     });
 }
 
-// The scan as twelve numbers: the six levels, then the six numbers of words read.
-fn put_scan(out: &mut [u16; 12], outputs: &[OutputScan; 6])
+// The numbers of a scan: the levels, then the numbers of words read.
+const SCAN_NUMBERS: usize = 2 * OUTPUTS;
+
+// The scan as numbers.
+fn put_scan(out: &mut [u16; SCAN_NUMBERS], outputs: &[OutputScan; OUTPUTS])
     ensures { out.new ≡ output_numbers outputs.now }
 {
-    let (levels, words) = out.split_at_mut(6);
+    let (levels, words) = out.split_at_mut(OUTPUTS);
     levels.copy_from_slice(&outputs.map(|x| u16::from(x.level)));
     words.copy_from_slice(&outputs.map(|x| x.words));
 }
@@ -57,9 +62,9 @@ fn put_scan(out: &mut [u16; 12], outputs: &[OutputScan; 6])
 // A report, an image or a scan of the wrong length; a memory of the wrong length comes first. Numbers, as the C interface needs them.
 #[tactic(auto, using(bools::proofs::Tests::tests))]
 fn misfit_code(words: usize) -> u16
-    ensures { result ≡ pick (eqb words 16384) bad_buffer (cause_number Memory) }
+    ensures { result ≡ pick (eqb words memory_words) bad_buffer (cause_number Memory) }
 {
-    if words == 16384 {
+    if words == MEMORY_WORDS {
         BAD_BUFFER
     } else {
         u16::from(Cause::Memory)
@@ -67,10 +72,10 @@ fn misfit_code(words: usize) -> u16
 }
 
 // The outputs of a scan that is refused: the C interface has numbers alone, and these are zeros.
-const REFUSED: [OutputScan; 6] = [OutputScan {
+const REFUSED: [OutputScan; OUTPUTS] = [OutputScan {
     level: false,
     words: 0,
-}; 6];
+}; OUTPUTS];
 
 // Runs a trace from power-up and fills in its report: the crate that it leaves, and the report.
 #[tactic(auto, unfolding(crate::specs::Exported::run_on))]

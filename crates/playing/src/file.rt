@@ -4,7 +4,7 @@ ghost use Rattle.device.specs.State.{machine};
 ghost use Rattle.playing.specs.Often.{ran_often};
 
 use device::Crate;
-use machine::Machine;
+use machine::{Machine, PROGRAM_TICKS};
 use std::rt::Files;
 use std::{fs, str};
 
@@ -32,13 +32,13 @@ pub fn load<'a, R: Files + Eprint>(rt: &R, file: &[u8], buf: &'a mut [u8]) -> Op
     Some(standard_input::read_input(&mut opened, buf).unwrap_or_else(|e| e.read))
 }
 
-// A trace, so many times, with 1,000,000 ticks each time. Crate and memory apart, as `trace::run` takes them: a `Machine` would ask for a memory of the right length.
+// A trace, so many times, with a program's ticks each time. Crate and memory apart, as `trace::run` takes them: a `Machine` would ask for a memory of the right length.
 #[tactic(auto, using(crate::proofs::Runs::often_less, crate::proofs::Runs::often_done))]
 pub fn run_often(state: &mut Crate, mem: &mut [u16], trace: &[u8], times: u32)
     ensures { machine state.new mem.new ≡ ran_often times trace.now (machine state.old mem.old) }
 {
     for _ in 0..times {
-        let _report = trace::run(state, mem, trace, 1_000_000);
+        let _report = trace::run(state, mem, trace, PROGRAM_TICKS);
     }
 }
 

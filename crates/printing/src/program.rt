@@ -7,7 +7,7 @@ ghost use Rattle.printing.specs.Printed.{printed as printed_printed};
 
 use crate::report::put_report;
 use device::Crate;
-use machine::Machine;
+use machine::{Machine, PROGRAM_TICKS};
 use pages::Page;
 use trace::Report;
 
@@ -38,12 +38,12 @@ pub fn printed(report: Report, state: &Crate, mem: &[u16]) -> Page
         .put(b'\n')
 }
 
-// What the program prints for its input: its first 65,536 bytes, run from power-up with 1,000,000 ticks.
+// What the program prints for its input: its first 65,536 bytes, run from power-up with a program's ticks.
 pub fn rehearse(input: &[u8]) -> Page
     ensures { written result ≡ program_prints input.now }
 {
     let trace = &input[..input.len().min(65_536)];
     let mut machine = Machine::new();
-    let report = machine.run(trace, 1_000_000);
+    let report = machine.run(trace, PROGRAM_TICKS);
     printed(report, &machine.state, &machine.mem)
 }

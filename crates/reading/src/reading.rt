@@ -8,6 +8,7 @@ ghost use Rattle.device.specs.State.{machine};
 use counters::Counter;
 use device::{Common, Crate, GateWord, ReadoutWord, Register, SettingWord, Settings, SharedWord};
 use gates::Gate;
+use lines::GATES;
 use loader::{MEMORY_WORDS, Reload};
 
 // Element i; past the end one as at power-up, the one default of its type.
@@ -121,7 +122,7 @@ fn shared_word(cm: &Common, q: SharedWord) -> u16
 
 // The word of a register of the gates.
 #[tactic(auto, unfolding(crate::specs::Read::gate_word, gates::specs::Gate::gate_at))]
-fn gate_word(gates: &[Gate; 12], q: GateWord) -> u16
+fn gate_word(gates: &[Gate; GATES], q: GateWord) -> u16
     ensures { result ≡ gate_word gates.now q }
 {
     match q {

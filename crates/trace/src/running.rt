@@ -14,6 +14,7 @@ use crate::Report;
 use causes::Cause;
 use device::Crate;
 use lines::Levels;
+use loader::MEMORY_WORDS;
 use records::{Record, Stop};
 
 // A leap costs about two ticks, so it is tried where at least twice that are left.
@@ -32,7 +33,7 @@ fn leap_on(state: &mut Crate, left: u64, levels: Levels) -> u64
 }
 
 // So many ticks at the same levels: a tick, and then the quiet ticks behind it at once. At the levels of the last tick the first may be quiet too.
-fn tick_on(state: &mut Crate, mem: &[u16; 16384], n: u64, levels: Levels)
+fn tick_on(state: &mut Crate, mem: &[u16; MEMORY_WORDS], n: u64, levels: Levels)
     requires { bad_levels levels.inputs levels.gates ≡ false }
     ensures { machine state.new mem.now ≡ from (machine state.old mem.now) (repeated n (call_tick levels.inputs levels.gates)) }
 {
@@ -86,7 +87,7 @@ impl<'a> Running<'a> {
     fn run_ticks(
         &self,
         state: &mut Crate,
-        mem: &[u16; 16384],
+        mem: &[u16; MEMORY_WORDS],
         repeat: u64,
         levels: Levels,
     ) -> Result<Option<u64>, Stop>
@@ -108,7 +109,7 @@ impl<'a> Running<'a> {
     fn run_record(
         &self,
         state: &mut Crate,
-        mem: &mut [u16; 16384],
+        mem: &mut [u16; MEMORY_WORDS],
         record: Record,
     ) -> Result<Option<u64>, Stop>
         ensures { run_run (made self.now.trace.now self.now.report result state.new) mem.new ≡ by_record self.now.trace.now self.now.budget (Ok (Some «record»)) (run_run (progress_of state.old self.now.report true) mem.old) }
@@ -124,7 +125,7 @@ impl<'a> Running<'a> {
 
     // One record: it is passed, or the run stops before it, also at the end of the trace: as `Err`, so that `?` hands on every stop.
     #[tactic(auto, unfolding(crate::specs::Run::once_of, crate::specs::Run::by_record))]
-    fn once(&mut self, state: &mut Crate, mem: &mut [u16; 16384]) -> Result<(), Stop>
+    fn once(&mut self, state: &mut Crate, mem: &mut [u16; MEMORY_WORDS]) -> Result<(), Stop>
         ensures { (run_run (turned result state.new self.new.report) mem.new ≡ once_of self.old.trace.now self.old.budget (run_run (progress_of state.old self.old.report true) mem.old))
             × SameTrace self.old self.new }
     {

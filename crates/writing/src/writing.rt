@@ -13,6 +13,7 @@ use device::{
     Common, Crate, GateWord, OUTPUT_WORDS, OUTPUTS, Register, SettingWord, Settings, SharedWord,
 };
 use gates::Gate;
+use lines::GATES;
 use loader::{Dataset, MEMORY_WORDS, Request};
 
 // A request enters the queue, or is refused: dataset above 31, then 16 waiting.
@@ -115,7 +116,7 @@ fn write_shared(s: &mut Crate, q: SharedWord, word: u16) -> Result<(), Cause>
 
 // A write to a register of the gates.
 #[tactic(auto, using(lists::proofs::Sweep::get_d_any), unfolding(crate::specs::Write::gates_write, device::specs::Map::kept, gates::specs::Gate::gate_at))]
-fn write_gates(gates: &mut [Gate; 12], q: GateWord, word: u16)
+fn write_gates(gates: &mut [Gate; GATES], q: GateWord, word: u16)
     ensures { gates.new ≡ gates_write q word gates.old }
 {
     match q {
