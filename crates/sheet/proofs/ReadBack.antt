@@ -2,7 +2,7 @@
 use Prim.Native.Nat.{ℕ, ◌+◌, ◌-◌, ◌*◌, ◌/◌, ◌%◌, ◌^◌, ◌≤◌, ◌<◌}
 use native.Mathlib.Nat.{lt_of_lt_of_le, mod-lt}
 use native.Mathlib.Omega.{arith}
-use mathlib.Core.Bool.{Bool, false, not, ◌&&◌, true≢false}
+use mathlib.Core.Bool.{Bool, false, not, ◌&&◌}
 use mathlib.Core.List.{List, []}
 use mathlib.Core.Path.{◌≡◌, refl, sym, ap, ◌∙◌}
 use borrow.Author.Tests.{eqb-false, eqb-true, ltb-false, ltb-true, ne_eqb}
@@ -39,7 +39,7 @@ use Rattle.device.specs.declared.map.ReadoutWord.TheVariants.{Negative, Positive
 use Rattle.device.specs.declared.map.SettingWord.{SettingWord}
 use Rattle.device.specs.declared.map.SettingWord.TheVariants.{Mask, WatchdogTimeout, Selection}
 use Rattle.device.specs.declared.map.SharedWord.{SharedWord}
-use Rattle.device.specs.declared.map.SharedWord.TheVariants.{Control, Key, Enable, Reload}
+use Rattle.device.specs.declared.map.SharedWord.TheVariants.{Control, Reload}
 use Rattle.device.specs.declared.state.Common.{Common}
 use Rattle.device.specs.declared.state.Crate.{Crate}
 use Rattle.device.specs.declared.state.Settings.{Settings}
@@ -51,7 +51,7 @@ use Rattle.device.specs.Map.{decode_of, kept, kept_at, output_words}
 use Rattle.reading.specs.Read.{gate_word, half_of, read_of, readout_word, setting_word, shared_word, word_in}
 use Rattle.device.specs.State.{Machine, with_common, with_counters, with_gates, with_groups, with_settings, with_watchdogs}
 use Rattle.writing.specs.Write.{control_write, enable_write, gates_write, key_write, reload_answer, reload_write, requested, reset_by, settings_write, shared_answer, shared_clears, shared_write}
-use Rattle.writing.specs.Write.{with_reload, write_answer, write_at}
+use Rattle.writing.specs.Write.{write_answer, write_at}
 use Rattle.registers.proofs.Whole.{WholeMemory, full, is_whole_lem, read_in, read_whole, step_called}
 use Rattle.sheet.specs.Follows.{follows, follows_at}
 use Rattle.sheet.proofs.Addresses.{InBlock, InGates, InMap, address_of, placed_as}
@@ -199,8 +199,7 @@ setting_other p q w s d = grind (arith, common_steps)
 outputs_settings : (p : SettingWord) (w : ℕ) (s : Crate) → follows (Setting p) (Readout Outputs) ≡ false →
     interlocks (with_settings s (settings_write p w s.settings)) ≡ interlocks s
 unfolding settings_write interlocks trips signals
-outputs_settings (Selection o k) w s f = absurd (true≢false f)
-outputs_settings p w s f = refl
+outputs_settings p w s f = grind arith
 
 readout_settings : (p : SettingWord) (w : ℕ) (s : Crate) (q : ReadoutWord) → follows (Setting p) (Readout q) ≡ false →
     readout_word (with_settings s (settings_write p w s.settings)) q ≡ readout_word s q
@@ -228,13 +227,13 @@ bits_apart p f q w gates size =
     (λ g. assumption)
 
 mode_apart : (b : Bool) (g : ℕ) (x : Gate) → GateApart Mode g (with_mode b x) x
-mode_apart b g x = record { mode = λ d. absurd (d refl); prepare = λ d. refl; recover = λ d. refl; timeout = λ d. refl; state = refl; output = refl }
+mode_apart b g x = grind arith
 
 prepare_apart : (b : Bool) (g : ℕ) (x : Gate) → GateApart Prepare g (with_prepare b x) x
-prepare_apart b g x = record { mode = λ d. refl; prepare = λ d. absurd (d refl); recover = λ d. refl; timeout = λ d. refl; state = refl; output = refl }
+prepare_apart b g x = grind arith
 
 recover_apart : (b : Bool) (g : ℕ) (x : Gate) → GateApart Recover g (with_recover b x) x
-recover_apart b g x = record { mode = λ d. refl; prepare = λ d. refl; recover = λ d. absurd (d refl); timeout = λ d. refl; state = refl; output = refl }
+recover_apart b g x = grind arith
 
 timeout_apart : (g t : ℕ) (gates : List Gate) → g < length gates → GatesApart (Timeout g) (set gates g (with_timeout t (gate_at gates g))) gates
 unfolding gate_at
@@ -249,10 +248,7 @@ gates_apart Recover l w gates size = bits_apart Recover with_recover recover_apa
 
 gate_other : (p q : GateWord) (x y : List Gate) → GatesApart p x y → (Gates p ≡ Gates q → ⊥) → gate_word x q ≡ gate_word y q
 unfolding gate_word gate_bits
-gate_other p Mode x y h d = λ i. pack 12 (λ g. (h g).mode d i)
-gate_other p (Timeout g) x y h d = (h g).timeout d
-gate_other p Prepare x y h d = λ i. pack 12 (λ g. (h g).prepare d i)
-gate_other p Recover x y h d = λ i. pack 12 (λ g. (h g).recover d i)
+gate_other p q x y h d = grind arith
 
 -- the outputs, were these the signals
 abbrev outputs_by : Crate → (ℕ → ℕ) → ℕ
@@ -298,13 +294,7 @@ abbrev CountersApart : Register → List Counter → List Counter → Type 0
 CountersApart r x y = (n : ℕ) → CounterApart r (counter_at x n) (counter_at y n)
 
 cleared_apart : (x : Counter) → CounterApart (Shared Control) (cleared x) x
-cleared_apart x = record {
-  count = λ k f. absurd (true≢false f);
-  under = λ k f. absurd (true≢false f);
-  over = λ k f. absurd (true≢false f);
-  positive = refl;
-  negative = refl;
-}
+cleared_apart x = grind arith
 
 clear_apart : (xs : List Counter) → length xs ≡ 128 → CountersApart (Shared Control) (clear_counters xs) xs
 unfolding clear_counters counter_at
@@ -331,8 +321,7 @@ outputs_counters s x u o = λ i.
 
 outputs_clears : (p : SharedWord) (w : ℕ) (s : Crate) → follows (Shared p) (Readout Outputs) ≡ false →
     interlocks (with_counters s (shared_clears p w s.counters)) ≡ interlocks s
-outputs_clears Control w s f = absurd (true≢false f)
-outputs_clears p w s f = refl
+outputs_clears p w s f = grind arith
 
 readout_counters : (r : Register) (s : Crate) (x : List Counter) → CountersApart r x s.counters →
     (follows r (Readout Outputs) ≡ false → interlocks (with_counters s x) ≡ interlocks s) →
@@ -359,22 +348,13 @@ input_other k t xs n d = ap (λ (x : Counter). x.input) (get_or-set_other xs k n
 
 -- ---- what all counters share
 
-reload_same : {A : Type 0} (f : Common → A) (w : ℕ) (cm : Common) → ((v : ℕ) (x : Common) → f (with_reload v x) ≡ f x) →
-    f (requested w cm) ≡ f cm → f (reload_write w cm) ≡ f cm
-unfolding reload_write
-reload_same f w cm e q = grind arith
-
 shared_other : (p q : SharedWord) (w : ℕ) (cm : Common) → (Shared p ≡ Shared q → ⊥) → shared_word (shared_write p w cm) q ≡ shared_word cm q
-unfolding shared_word shared_write control_write key_write enable_write requested
-shared_other Reload Control w cm d = reload_same (λ x. x.control) w cm (λ v x. refl) refl
-shared_other Reload Key w cm d = reload_same (λ x. x.key) w cm (λ v x. refl) refl
-shared_other Reload Enable w cm d = reload_same (λ x. x.enable) w cm (λ v x. refl) refl
+unfolding shared_word shared_write control_write key_write enable_write reload_write requested
 shared_other p q w cm d = grind arith
 
 busy_same : (p : SharedWord) (w : ℕ) (cm : Common) → busy (shared_write p w cm).loader ≡ busy cm.loader
-unfolding shared_write control_write key_write enable_write requested
-busy_same Reload w cm = reload_same (λ x. busy x.loader) w cm (λ v x. refl) refl
-busy_same p w cm = refl
+unfolding shared_write control_write key_write enable_write reload_write requested
+busy_same p w cm = grind arith
 
 readout_common : (s : Crate) (x : Common) → busy x.loader ≡ busy s.common.loader → (q : ReadoutWord) → readout_word (with_common s x) q ≡ readout_word s q
 unfolding readout_word interlocks trips signals
