@@ -1,8 +1,11 @@
 -- Each register of the map has one address: so two addresses of the map name two registers.
-use Prim.Native.Nat.{ℕ, ◌+◌, ◌*◌, ◌<◌, ◌≤◌}
+use Prim.Native.Nat.{ℕ, ◌+◌, ◌-◌, ◌*◌, ◌<◌, ◌≤◌}
 use native.Mathlib.Omega.{arith}
 use mathlib.Core.Path.{◌≡◌, refl, sym, subst, ◌∙◌}
 use Rattle.std.proofs.lemmas.Bool.Decides.{nat_tests}
+use borrow.Author.Tests.{ltb-false, ltb-true}
+use lib.Dec.{ltb}
+use Rattle.bools.proofs.Tests.{pick_elim}
 use Rattle.std.proofs.Common.{Option, Some, None}
 use Rattle.device.specs.declared.map.Register.{Register}
 use Rattle.device.specs.declared.map.Register.TheVariants.{Readout, Setting, Shared, Gates, Watchdogs, Input, Group, Word}
@@ -15,7 +18,7 @@ use Rattle.device.specs.declared.map.SettingWord.{SettingWord}
 use Rattle.device.specs.declared.map.SettingWord.TheVariants.{Mask, WatchdogTimeout, Selection}
 use Rattle.device.specs.declared.map.SharedWord.{SharedWord}
 use Rattle.device.specs.declared.map.SharedWord.TheVariants.{Control, Key, Enable, Reload}
-use Rattle.device.specs.Map.{backplane_map, control_map, counter_map, decode_of, event_map, status_map}
+use Rattle.device.specs.Map.{backplane_map, below, control_map, counter_map, decode_of, event_map, output_block, status_map}
 
 -- ---- the map from the registers' side
 
@@ -87,37 +90,78 @@ InMap (Word i) = i < 16384
 InMap r = Unit
 
 -- what may stand at an address: nothing, or a register of the map with that address
+pub record Stands (a : ℕ) (r : Register) : Type 0 where
+  pub inside : InMap r
+  pub address : address_of r ≡ a
+
 abbrev pub Placed : ℕ → Option Register → Type 0
 Placed a None = Unit
-Placed a (Some r) = InMap r × (address_of r ≡ a)
+Placed a (Some r) = Stands a r
 
--- ---- page by page
+-- ---- page by page, row by row
 
-backplane_placed : (a : ℕ) → Placed a (backplane_map a)
+-- what a row holds at the addresses from `low` to its edge, and what the map holds from `low` on
+record Row (low edge a : ℕ) (o : Option Register) : Type 0 where
+  placed : low ≤ a → a < edge → Placed a o
+
+record From (low a : ℕ) (o : Option Register) : Type 0 where
+  placed : low ≤ a → Placed a o
+
+from_below : (low edge a : ℕ) (here rest : Option Register) → Row low edge a here → From edge a rest → From low a (below a edge here rest)
+from_below low edge a here rest row more = record {
+  placed = λ h. pick_elim (Placed a) (ltb a edge) (λ e. row.placed h (ltb-true a edge e)) (λ e. more.placed (ltb-false a edge e));
+}
+
+from_none : (low a : ℕ) → From low a None
+from_none low a = record { placed = λ h. tt }
+
+row_none : (low edge a : ℕ) → Row low edge a None
+row_none low edge a = record { placed = λ h l. tt }
+
+-- a block of registers, and a register alone
+row_block : (low edge a : ℕ) (r : Register) → (a - low < edge - low → InMap r) → address_of r ≡ low + (a - low) → Row low edge a (Some r)
+row_block low edge a r p e = record { placed = λ h l. record { inside = p (omega arith); address = e ∙ omega arith } }
+
+row_one : (low edge a : ℕ) (r : Register) → InMap r → address_of r ≡ low → edge ≡ low + 1 → Row low edge a (Some r)
+row_one low edge a r i e one = record { placed = λ h l. record { inside = i; address = e ∙ omega arith } }
+
+row_outputs : (a : ℕ) → Row 0x1100 0x11C0 a (output_block (a - 0x1100))
+row_outputs a = record { placed = λ h l. grind (arith, nat_tests) }
+
+ruleset rows = (from_below, from_none, row_none, row_block, row_one, row_outputs)
+
+backplane_from : (a : ℕ) → From 0 a (backplane_map a)
 unfolding backplane_map
-backplane_placed a = grind arith
+backplane_from a = search rows depth 40
 
-status_placed : (a : ℕ) → 0x0700 ≤ a → Placed a (status_map a)
+status_from : (a : ℕ) → From 0x0700 a (status_map a)
 unfolding status_map
-status_placed a g = grind arith
+status_from a = search rows depth 40
 
-control_placed : (a : ℕ) → 0x0800 ≤ a → Placed a (control_map a)
+control_from : (a : ℕ) → From 0x0800 a (control_map a)
 unfolding control_map
-control_placed a g = grind arith
+control_from a = search rows depth 40
 
-event_placed : (a : ℕ) → 0x0900 ≤ a → Placed a (event_map a)
+event_from : (a : ℕ) → From 0x0900 a (event_map a)
 unfolding event_map
-event_placed a g = grind arith
+event_from a = search rows depth 40
 
-counter_placed : (a : ℕ) → 0x1000 ≤ a → Placed a (counter_map a)
+counter_from : (a : ℕ) → From 0x1000 a (counter_map a)
 unfolding counter_map
-counter_placed a g = grind arith
+counter_from a = search rows depth 40
 
-pub placed : (a : ℕ) → Placed a (decode_of a)
+-- a page is a row of the whole
+row_page : (low edge a : ℕ) (o : Option Register) → From low a o → Row low edge a o
+row_page low edge a o page = record { placed = λ h l. page.placed h }
+
+map_from : (a : ℕ) → From 0 a (decode_of a)
 unfolding decode_of
-placed a = grind (arith, nat_tests, backplane_placed, status_placed, control_placed, event_placed, counter_placed)
+map_from a = search (from_below, row_page, backplane_from, status_from, control_from, event_from, counter_from) depth 40
 
-pub placed_as : (a : ℕ) (r : Register) → decode_of a ≡ Some r → InMap r × (address_of r ≡ a)
+placed : (a : ℕ) → Placed a (decode_of a)
+placed a = (map_from a).placed (omega arith)
+
+pub placed_as : (a : ℕ) (r : Register) → decode_of a ≡ Some r → Stands a r
 placed_as a r e = subst (Placed a) e (placed a)
 
 -- so two addresses at which registers stand are the same where the registers are
@@ -126,7 +170,7 @@ one_address a b full e = by (decode_of a) refl
   where
     by : (o : Option Register) → decode_of a ≡ o → a ≡ b
     by None p = absurd (full p)
-    by (Some r) p = sym (placed_as a r p).1 ∙ (placed_as b r (sym e ∙ p)).1
+    by (Some r) p = sym (placed_as a r p).address ∙ (placed_as b r (sym e ∙ p)).address
 
 -- 0x0A02 and no other
 pub decode_reload : decode_of 0x0A02 ≡ Some (Shared Reload)
@@ -134,4 +178,4 @@ unfolding decode_of event_map
 decode_reload = refl
 
 pub reload_at : (a : ℕ) → decode_of a ≡ Some (Shared Reload) → a ≡ 0x0A02
-reload_at a e = sym (placed_as a (Shared Reload) e).1
+reload_at a e = sym (placed_as a (Shared Reload) e).address

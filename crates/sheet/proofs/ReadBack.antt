@@ -176,7 +176,7 @@ read_back l a w e =
     by : (o : Option Register) → decode_of a ≡ o → answer_in (after l).state.common o w ≡ Ok tt →
         read_in (write_in (after l) o w) o ≡ Ok (option_map_or (λ (r : Register). kept r w) o 0)
     by None p e = cc
-    by (Some r) p e = ap Ok (back_at (after l) (sized_after l) r (placed_as a r p).0 w e)
+    by (Some r) p e = ap Ok (back_at (after l) (sized_after l) r (placed_as a r p).inside w e)
 
 -- ---- the other registers. What a write changes is one part of the state; a read that does not look at it gives what it gave by computing
 -- alone, so only those that do have a line here
@@ -214,6 +214,7 @@ record GateApart (p : GateWord) (g : ℕ) (x y : Gate) : Type 0 where
   recover : (Gates p ≡ Gates Recover → ⊥) → x.recover ≡ y.recover
   timeout : (Gates p ≡ Gates (Timeout g) → ⊥) → x.timeout ≡ y.timeout
   state : x.state ≡ y.state
+  timer : x.timer ≡ y.timer
   output : x.output ≡ y.output
 
 abbrev GatesApart : GateWord → List Gate → List Gate → Type 0
@@ -409,4 +410,4 @@ read_other l a w b d f =
     by : (o : Option Register) → decode_of a ≡ o → (p : Option Register) → decode_of b ≡ p → read_in (write_in (after l) o w) p ≡ read_in (after l) p
     by None e p q = refl
     by (Some r) e None q = refl
-    by (Some r) e (Some t) q = ap Ok (other_register (after l) (sized_after l) r (placed_as a r e).0 w t (λ n. d (sym (placed_as a r e).1 ∙ ap address_of n ∙ (placed_as b t q).1)) (rw (e, q) at f))
+    by (Some r) e (Some t) q = ap Ok (other_register (after l) (sized_after l) r (placed_as a r e).inside w t (λ n. d (sym (placed_as a r e).address ∙ ap address_of n ∙ (placed_as b t q).address)) (rw (e, q) at f))
