@@ -323,6 +323,8 @@ power_up_rows =
     ∷ row 0x0707 (reads [] 0x063A)
     ∷ row 0x0707 (reads [] 0x063B)
     ∷ row 0 (reads [] 0xBFFF)
+    -- the counters, of which no register past the last one tells
+    ∷ row 128 (length power_up.counters)
     ∷ []
 
 -- counter 0 stands at 2, gate 0 is in DIRECT, gate 1 in IDLE and gate 2 in ERROR; then a tag for each command that does nothing

@@ -3,10 +3,13 @@
 use mathlib.Core.Bool.{true}
 use mathlib.Core.List.{List, [], ◌∷◌}
 use mathlib.Core.Path.{◌≡◌, refl}
+use lib.ListN.{get_or}
 use Rattle.lists.specs.Checks.{Row, row, right}
 use Rattle.lent.specs.Lent.{bad_buffer}
 use Rattle.mirvacula.specs.Converting.{answer_words}
-use Rattle.mirvacula.specs.Exported.{image_start, image_words, report_words, scan_words}
+use Rattle.registers.specs.Calls.{machine0}
+use Rattle.registers.proofs.Computing.{computing}
+use Rattle.mirvacula.specs.Exported.{image_of, image_start, image_words, report_words, scan_words}
 
 unfoldable pub figures : List Row
 figures =
@@ -18,8 +21,11 @@ figures =
     ∷ row 5120 image_words
     ∷ row 12 scan_words
     ∷ row 2 answer_words
+    -- "word 0" where no register is: 0x0636, between 0x0635 and the module IDs, and the last place
+    ∷ row 0 (get_or (image_of machine0) 0x36 9)
+    ∷ row 0x0707 (get_or (image_of machine0) 0x38 9)
     ∷ []
 
 pub figures_right : right figures ≡ true
-unfolding figures
+unfolding computing figures image_of
 figures_right = refl

@@ -53,9 +53,11 @@ line_cases =
     ∷ case (2 ^ 0 + 2 ^ 5 + 2 ^ 54 * 0x004) (lines_in3 (patch ∷ []))
     -- "of at least one word that the list writes": all words, also behind the last tick
     ∷ case (2 ^ 0 + 2 ^ 5 + 2 ^ 1 + 2 ^ 54 * 0x00C) (lines_in3 (patch ∷ tick 1 4 ∷ write 0x1003 0x3D81 ∷ []))
-    -- "the inputs 0 to 53 and gates 0 to 11": the last of both; ground, a test signal and GATE 12 are none
+    -- "the inputs 0 to 53 and gates 0 to 11": the last of both; ground, test signals and GATE 12 to 15 are none
     ∷ case (2 ^ 53 + 2 ^ 54 * 0x800) (lines_in3 (write 0x1003 0xBD75 ∷ []))
     ∷ case 0 (lines_in3 (write 0x1003 0xCFF6 ∷ []))
+    ∷ case 0 (lines_in3 (write 0x1003 0xDFF6 ∷ []))
+    ∷ case 0 (lines_in3 (write 0x1003 0xEFF6 ∷ []))
     ∷ case 0 (lines_in3 (write 0x1003 0xFFF7 ∷ []))
     -- "to its input register": a neighbour's patch, the same word elsewhere, levels of lines and bits of gates bring none
     ∷ case 0 (lines_in3 (write 0x1004 0x2140 ∷ write 0x1002 0x2140 ∷ write 0x8003 0x2140 ∷ write 0x0802 0x0FFF ∷ tick 0x21 0x004 ∷ tag 0x2FFF ∷ []))
@@ -244,6 +246,8 @@ queue_cases =
     -- TRIGGER set where it is set is no request; a refused write leaves it clear
     ∷ case 1 (waiting3 (reloaded 0x1000 ∷ reloaded 0x1001 ∷ []))
     ∷ case 1 (waiting3 (reloaded 0x1020 ∷ reloaded 0x1000 ∷ []))
+    -- also one that a full queue refuses
+    ∷ case 16 (waiting3 (requests 16 ++ (reloaded 0x1000 ∷ []) ++ idle 1 ++ (reloaded 0x1000 ∷ [])))
     ∷ []
 
 -- ---- side effects of writes

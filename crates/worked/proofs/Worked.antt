@@ -20,7 +20,7 @@ use Rattle.device.specs.declared.map.Register.{Register}
 use Rattle.causes.specs.Causes.{number_of}
 use Rattle.registers.specs.Calls.{Call, tick, write, tag, download, answer, after, step, machine0, powered, powered_memory}
 use Rattle.device.specs.Map.{decode_of, used_bits}
-use Rattle.reading.specs.Read.{low_first, read_of}
+use Rattle.reading.specs.Read.{low_first, read_of, word_shown}
 use Rattle.device.specs.State.{Machine, common0, machine, power_up}
 use Rattle.interlocks.specs.Scan.{scan_of}
 use Rattle.writing.specs.Write.{write_answer}
@@ -256,6 +256,9 @@ refusal_rows =
     ∷ row 1 (number_of (answer (machine power_up short) (download 32 [])))
     -- 2, and 3
     ∷ row 2 (read_answers [] 0x0905)
+    -- "number, word 0"
+    ∷ row 0 (reads [] 0x0905)
+    ∷ row 0 (word_shown (read_of (machine power_up short) 0x0800))
     ∷ row 2 (answers [] (write 0x0905 1))
     ∷ row 3 (answers [] (write 0x1800 1))
     -- 4 before 5; 0x0A02 stays as it was, and with no rise of TRIGGER nothing is refused
@@ -365,7 +368,7 @@ output_rows =
     ∷ row 0x3F (reads (counting 0 ++ pulses 1 ++ (write 0x1108 2 ∷ [])) 0x0719)
     ∷ row 0x1F (reads (write 0x1011 0x0036 ∷ write 0x0802 1 ∷ tick 1 1 ∷ write 0x11A1 2 ∷ []) 0x0719)
     ∷ row 0x3D (reads (tick 0 0x0A00 ∷ write 0x1130 0x0200 ∷ []) 0x0719)
-    ∷ row 0x3B (reads (write 0x0800 0 ∷ tick 0 0 ∷ write 0x1154 0x0020 ∷ []) 0x0719)
+    ∷ row 0x3B (reads (write 0x0800 0 ∷ tick 0 0x0020 ∷ write 0x1154 0x0020 ∷ []) 0x0719)
     ∷ row 0x3B (reads (write 0x0800 0 ∷ tick 0 0 ∷ write 0x1151 0x8000 ∷ []) 0x0719)
     -- a forwarded gate trips while its input is low
     ∷ row 0x37 (reads (write 0x1175 4 ∷ []) 0x0719)
@@ -487,9 +490,10 @@ scan_rows =
     -- words of each kind of signal
     ∷ row 8 (scans (under 127 ++ (write 0x1107 0x8000 ∷ [])) 0)
     ∷ row 9 (scans (counting 0 ++ pulses 1 ++ (write 0x1108 1 ∷ [])) 0)
+    ∷ row 16 (scans (write 0x107F 0x0D80 ∷ write 0x0802 1 ∷ pulses 1 ++ (write 0x110F 0x8000 ∷ [])) 0)
     ∷ row 17 (scans (tick 0 0x0A00 ∷ write 0x1110 0x0200 ∷ []) 0)
     ∷ row 18 (scans (write 0x0800 0 ∷ tick 0 0 ∷ write 0x1111 0x8000 ∷ []) 0)
-    ∷ row 21 (scans (write 0x0800 0 ∷ tick 0 0 ∷ write 0x1114 0x0020 ∷ []) 0)
+    ∷ row 21 (scans (write 0x0800 0 ∷ tick 0 0x0020 ∷ write 0x1114 0x0020 ∷ []) 0)
     -- a forwarded gate: low at power-up, high, and still high after a refused tick
     ∷ row 22 (scans (write 0x1115 4 ∷ []) 0)
     ∷ row 122 (scans (write 0x1115 4 ∷ tick 0 4 ∷ []) 0)
