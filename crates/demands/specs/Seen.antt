@@ -19,7 +19,8 @@ pub data Act : Type 0 where
   scanning : Act
   tracing : List ℕ → ℕ → Act
 
--- what it shows: an answer, a read's with its word, a scan's with levels and words read, a run's report; each with its number of 01's table
+-- what it shows: an answer, a read's with its word, a scan's with levels and words read, a run's report; each with its number, of 01's table or, of
+-- a run, `stop_number` of its stop
 pub data Seen : Type 0 where
   answered : Answer → ℕ → Seen
   told : Result ℕ Cause → ℕ → Seen

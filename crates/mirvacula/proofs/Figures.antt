@@ -21,7 +21,7 @@ figures =
     ∷ row 5120 image_words
     ∷ row 12 scan_words
     ∷ row 2 answer_words
-    -- "word 0" where no register is: 0x0636, between 0x0635 and the module IDs, and the last place
+    -- "word 0" where no register is, at 0x0636, and the module IDs of 0x0638 behind it
     ∷ row 0 (get_or (image_of machine0) 0x36 9)
     ∷ row 0x0707 (get_or (image_of machine0) 0x38 9)
     ∷ []
