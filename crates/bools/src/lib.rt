@@ -1,2 +1,2 @@
-// Choices and tests: what the contracts and proofs of the crates above decide with; definitions and laws, no function.
+// Choices and tests: what the contracts and proofs of the packages above decide with; definitions and laws, no function.
 #![tactic(auto)]

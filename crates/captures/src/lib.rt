@@ -9,8 +9,10 @@ mod frames;
 mod traces;
 
 use causes::Cause;
+pub use frames::FRAME_BYTES;
 use std::error::Error;
 use std::fmt;
+pub use traces::RECORD_BYTES;
 use traces::{trace_bytes, write_trace};
 
 // Why a capture is refused, in the order of the checks.

@@ -7,7 +7,7 @@ use crate::Refusal;
 use crate::frames::{FRAME_BYTES, Nine, Repeat, Repeats};
 
 // A tick record: header, repeat, levels.
-const RECORD_BYTES: usize = 14;
+pub const RECORD_BYTES: usize = 14;
 
 // Its tag, and the length of what follows.
 const HEADER: [u8; 3] = [0x01, 0, 11];

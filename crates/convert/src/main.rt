@@ -4,17 +4,19 @@
 
 ghost use Rattle.std.specs.Prelude.{◌≡◌, length};
 
+use captures::{FRAME_BYTES, RECORD_BYTES};
+
 // Frames of the longest capture.
 const FRAMES: usize = 131_072;
 
-// Nine bytes a frame.
-const LIMIT: usize = 9 * FRAMES;
+// Its bytes.
+const LIMIT: usize = FRAME_BYTES * FRAMES;
 
 // The longest capture and one byte more, which tells that there are too many.
 const ROOM: usize = LIMIT + 1;
 
-// The trace of the longest capture, whatever it holds: 14 bytes a frame.
-const TRACE: usize = 14 * FRAMES;
+// The trace of the longest capture, whatever it holds: a record a frame.
+const TRACE: usize = RECORD_BYTES * FRAMES;
 
 // Room for so many bytes. A function, as the prover counts the elements of an array that stands in `main`, and there are too many.
 fn space<const N: usize>() -> [u8; N]

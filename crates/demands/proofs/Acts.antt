@@ -6,7 +6,7 @@ use mathlib.Core.List.{List, [], ◌∷◌, ◌++◌, append_assoc}
 use mathlib.Core.Path.{◌≡◌, refl, sym, ap, subst, ◌∙◌}
 use Rattle.std.proofs.Common.{Ok}
 use Rattle.lists.proofs.Tables.{length_tabulate}
-use Rattle.loader.specs.Memory.{is_whole}
+use Rattle.loader.specs.Memory.{is_whole, memory_words}
 use Rattle.device.specs.declared.state.Crate.{Crate}
 use Rattle.causes.specs.Causes.{Answer, number_of}
 use Rattle.device.specs.State.{Machine, machine, memory0}
@@ -92,7 +92,7 @@ go_can m (x ∷ l) = (
 
 whole_start : is_whole memory0 ≡ true
 unfolding memory0
-whole_start = is_whole_lem memory0 (length_tabulate 16384 _)
+whole_start = is_whole_lem memory0 (length_tabulate memory_words _)
 
 pub rehearsable : (l : List Act) → Saw l (seen_of l) (after (list_of l))
 unfolding Saw seen_of after list_of powered powered_memory

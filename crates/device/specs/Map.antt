@@ -21,6 +21,14 @@ use Rattle.device.specs.declared.map.SharedWord.TheVariants.{Control, Key, Enabl
 abbrev pub below : ℕ → ℕ → Option Register → Option Register → Option Register
 below a edge here rest = pick (ltb a edge) here rest
 
+-- six interlock outputs
+abbrev pub output_count : ℕ
+output_count = 6
+
+-- the masks of two slots each
+abbrev pub mask_count : ℕ
+mask_count = 6
+
 -- an output's block is 22 registers "with a raster of 32 addresses": output and place in its block
 abbrev pub output_words : ℕ
 output_words = 22

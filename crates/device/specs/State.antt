@@ -7,10 +7,11 @@ use Rattle.loader.specs.declared.loader.Reload.{Reload}
 use Rattle.watchdogs.specs.declared.watchdog.Watchdog.{Watchdog}
 use Rattle.counters.specs.Counter.{counter0, counter_count}
 use Rattle.gates.specs.Gate.{gate0}
-use Rattle.lines.specs.Lines.{gate_count, input_count}
-use Rattle.loader.specs.Loader.{Queue, loader0, queue0}
+use Rattle.lines.specs.Lines.{gate_count, input_count, signal_count}
+use Rattle.loader.specs.Loader.{Queue, group_words, loader0, queue0}
 use Rattle.loader.specs.Memory.{memory_words}
 use Rattle.watchdogs.specs.Watchdog.{watchdog0}
+use Rattle.device.specs.Map.{mask_count, output_count, output_words}
 use Rattle.device.specs.declared.state.Common.{Common}
 use Rattle.device.specs.declared.state.Crate.{Crate}
 use Rattle.device.specs.declared.state.Events.{Events}
@@ -118,17 +119,17 @@ with_memory m memory = machine m.state memory
 -- only"
 
 abbrev pub common0 : Common
-common0 = common_of 0 0 0 0 queue0 loader0 (tabulate 9 (λ k. 0))
+common0 = common_of 0 0 0 0 queue0 loader0 (tabulate signal_count (λ k. 0))
 
 abbrev pub settings0 : Settings
-settings0 = settings_of (tabulate 6 (λ k. 0)) 65535 (tabulate 6 (λ o. tabulate 22 (λ k. 0)))
+settings0 = settings_of (tabulate mask_count (λ k. 0)) 65535 (tabulate output_count (λ o. tabulate output_words (λ k. 0)))
 
 abbrev pub status0 : Status
 status0 = status_of (tabulate input_count (λ i. 0)) 0 (events_of 0 0 0 0)
 
 unfoldable pub power_up : Crate
 power_up =
-    crate_of (tabulate counter_count (λ n. counter0)) (tabulate 32 (λ k. 0)) (tabulate gate_count (λ g. gate0))
+    crate_of (tabulate counter_count (λ n. counter0)) (tabulate group_words (λ k. 0)) (tabulate gate_count (λ g. gate0))
     (tabulate input_count (λ i. watchdog0)) 0 common0 settings0 status0
 
 -- "16,384 lent words, .. cleared at power-up"

@@ -2,6 +2,8 @@
 ghost use Rattle.std.specs.Prelude.{◌≡◌, ◌≤◌};
 ghost use Rattle.device.specs.Map.{output_block, backplane_map, status_map, control_map, event_map, counter_map, decode_of};
 
+use crate::state::OUTPUT_WORDS;
+
 // A register by the part of the state that a write to it changes, so that a new register joins a part.
 #[derive(Clone, Copy)]
 pub enum Register {
@@ -65,8 +67,8 @@ pub enum GateWord {
     Recover,
 }
 
-// A page's function takes a whole address, and promises what stands there from the page's first one on. By the place within the page a read of
-// the register image takes two instructions more, by one match for all pages nine, of nineteen: a run with its image then 3% and 15% more.
+// A page's function takes a whole address, and promises what stands there from the page's first one on: by the place within the page, and by one
+// match for all pages, a read took more instructions.
 
 // Addresses up to 0x06FF.
 #[tactic(auto, using(bools::proofs::Tests::tests), unfolding(crate::specs::Map::backplane_map))]
@@ -140,7 +142,7 @@ fn output_block(k: u16) -> Option<Register>
     ensures { result ≡ output_block k }
 {
     let (output, place) = (k / 32, k % 32);
-    if place < 22 {
+    if usize::from(place) < OUTPUT_WORDS {
         return Some(Register::Setting(SettingWord::Selection { output, place }));
     }
     None

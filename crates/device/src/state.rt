@@ -23,7 +23,7 @@ pub struct Crate {
     // write would take one apart
     pub groups: [u16; GROUP_WORDS],
     pub gates: [Gate; GATES],
-    // beside the raw counts: each is stepped, reset and read by itself, and nothing takes both of one input
+    // apart from the raw counts: each is stepped, reset and read by itself, and nothing takes both of one input
     pub watchdogs: [Watchdog; INPUTS],
     // the input levels of the last tick; every counter sees them, and no counter sees the gate levels in `status`, so they are not one `Levels`
     pub levels: u64,

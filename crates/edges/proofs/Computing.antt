@@ -1,4 +1,4 @@
--- `computing` opens every definition of the sheet, of the trace, of leaps and of the crates below them by its `unfolding` line.
+-- `computing` opens every definition of the sheet, of the trace, of leaps and of the packages below them by its `unfolding` line.
 use mathlib.Core.Bool.{Bool}
 use mathlib.Core.List.{List}
 use Rattle.lists.specs.Checks.{Row, right}

@@ -15,8 +15,8 @@ use Rattle.words.proofs.Packing.{bit_zero}
 use Rattle.lists.specs.Table.{any, least, tabulate}
 use Rattle.lists.proofs.Tables.{any_each, any_fewer, any_found, any_none, get_d_tabulate, least_is, tabulate_ext}
 use Rattle.device.specs.declared.state.Crate.{Crate}
-use Rattle.device.specs.Map.{output_words}
-use Rattle.interlocks.specs.Interlock.{interlock, meets, output_count, selected, signals, trips, trips_by}
+use Rattle.device.specs.Map.{output_count, output_words}
+use Rattle.interlocks.specs.Interlock.{interlock, meets, selected, signals, trips, trips_by}
 use Rattle.interlocks.specs.Scan.{words_read}
 use Rattle.interlocks.specs.Together.{ended_at, ended_next, word_next, words_next}
 

@@ -9,7 +9,7 @@ use Rattle.lines.specs.Lines.{gate_count}
 use Rattle.watchdogs.specs.declared.watchdog.Watchdog.{Watchdog}
 use Rattle.watchdogs.specs.Watchdog.{error_of, watchdog_word}
 use Rattle.device.specs.declared.state.Crate.{Crate}
-use Rattle.device.specs.Map.{output_words}
+use Rattle.device.specs.Map.{output_count, output_words}
 
 -- gate inputs that were low at the last accepted tick, all of them at power-up: "Signals from gate inputs are pre-inverted"
 abbrev pub low_gates : ℕ → ℕ
@@ -45,9 +45,6 @@ trips s o w = trips_by (selected s.settings.selections o) (signals s) w
 -- "Interlock o is 1 exactly when no selected overflow, gate error, watchdog error or low forwarded gate input exists."
 abbrev pub interlock : Crate → ℕ → Bool
 interlock s o = not (trips s o output_words)
-
-abbrev pub output_count : ℕ
-output_count = 6
 
 -- register 0x0719
 unfoldable pub interlocks : Crate → ℕ

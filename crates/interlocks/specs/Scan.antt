@@ -6,10 +6,10 @@ use Rattle.loader.specs.Memory.{is_whole}
 use Rattle.causes.specs.declared.Cause.{Cause}
 use Rattle.causes.specs.declared.Cause.TheVariants.{Memory}
 use Rattle.device.specs.declared.state.Crate.{Crate}
-use Rattle.device.specs.Map.{output_words}
+use Rattle.device.specs.Map.{output_count, output_words}
 use Rattle.device.specs.State.{Machine}
 use Rattle.interlocks.specs.declared.scan.OutputScan.{OutputScan}
-use Rattle.interlocks.specs.Interlock.{interlock, output_count, trips}
+use Rattle.interlocks.specs.Interlock.{interlock, trips}
 
 -- "goes up from the lowest address and ends at the first word by which those read already make the output 0", "all of them where the
 -- level is 1": the least w such that the first w words alone make it 0, and all 22 where no fewer do

@@ -4,8 +4,8 @@ use Rattle.std.specs.Prelude.{ℕ, List, Option, None, Some, get_or}
 use Rattle.bools.specs.Pick.{pick}
 use Rattle.lists.specs.Table.{tabulate}
 use Rattle.device.specs.declared.state.Crate.{Crate}
-use Rattle.device.specs.Map.{output_words}
-use Rattle.interlocks.specs.Interlock.{meets, output_count, selected, trips}
+use Rattle.device.specs.Map.{output_count, output_words}
+use Rattle.interlocks.specs.Interlock.{meets, selected, trips}
 use Rattle.interlocks.specs.Scan.{words_read}
 
 -- after all words

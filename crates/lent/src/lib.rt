@@ -13,7 +13,7 @@ const DONE: u16 = 0;
 // Something lent has the wrong length.
 pub const BAD_BUFFER: u16 = 255;
 
-// A state as three words: window, place, and the sum in two's complement. A function and no `From`, since neither type is this crate's.
+// A state as three words: window, place, and the sum in two's complement. A function and no `From`, since neither type is this package's.
 fn words_of(state: Sliding) -> [u64; 3]
     ensures { result ≡ words_of state }
 {

@@ -2,7 +2,7 @@
 use Rattle.std.specs.Prelude.{ℕ, ◌+◌, ◌-◌, ◌*◌, ◌/◌, ◌%◌, Bool, not, List, leb, ltb, get_or}
 use Rattle.bools.specs.Pick.{pick}
 use Rattle.lists.specs.Table.{any, each}
-use Rattle.lines.specs.Lines.{frequency, phase_limit}
+use Rattle.lines.specs.Lines.{frequency, phase_limit, signal_count}
 
 -- "adds f to its phase each tick": what k ticks add up to, with nothing taken off
 abbrev pub phase_total : ℕ → ℕ → ℕ → ℕ
@@ -13,7 +13,7 @@ unfoldable pub phase_after : ℕ → ℕ → ℕ → ℕ
 phase_after k j phase = phase_total k j phase % phase_limit
 
 unfoldable pub leap_phases : ℕ → List ℕ → List ℕ
-leap_phases k phases = each 9 0 (phase_after k) phases
+leap_phases k phases = each signal_count 0 (phase_after k) phases
 
 -- "and a rise is given": the rises of a selection value in k ticks in which no input rises; ground gives none
 unfoldable pub rises_in : ℕ → List ℕ → ℕ → ℕ
@@ -21,4 +21,4 @@ rises_in k phases u = pick (ltb u 55) 0 (phase_total k (u - 55) (get_or phases (
 
 -- every phase is below 125,000, as from power-up on all are
 unfoldable pub low_phases : List ℕ → Bool
-low_phases phases = not (any 9 (λ j. leb phase_limit (get_or phases j 0)))
+low_phases phases = not (any signal_count (λ j. leb phase_limit (get_or phases j 0)))

@@ -3,6 +3,7 @@ ghost use Rattle.std.specs.Prelude.{◌≡◌, ◌<◌};
 ghost use Rattle.lists.specs.Table.{tabulate};
 ghost use Rattle.lines.specs.Leap.{leap_phases, low_phases, phase_after, rises_in};
 
+use crate::levels::INPUTS;
 use crate::lines::{LIMIT, SIGNALS, Signal};
 use std::array;
 
@@ -35,10 +36,10 @@ fn rises_at(phases: &[u32; SIGNALS], k: u32, u: usize) -> u32
     requires { u < 64 }
     ensures { result ≡ rises_in k phases.now u }
 {
-    if u < 55 {
+    if u <= INPUTS {
         return 0;
     }
-    let number = u - 55;
+    let number = u - INPUTS - 1;
     (Signal { number }.phase_total(k, phases[number]) / LIMIT) as u32
 }
 

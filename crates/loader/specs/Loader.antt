@@ -75,7 +75,10 @@ unfoldable pub queue_step : Option Reload → Queue → Queue
 queue_step None q = left_of q
 queue_step (Some l) q = q
 
--- "Groups: 0x1600 onward, four bits a counter"
+-- "Groups: 0x1600 onward, four bits a counter": of 128 counters
+abbrev pub group_words : ℕ
+group_words = 32
+
 unfoldable pub group_at : List ℕ → ℕ → ℕ
 group_at groups n = nibble (get_or groups (n / 4) 0) (n % 4)
 

@@ -5,6 +5,4 @@ mod loader;
 mod memory;
 
 pub use loader::{GROUP_WORDS, Queue, Reload, Request, group_at, load_into, step_loader};
-pub use memory::{
-    CounterNumber, DATASET_WORDS, Dataset, MEMORY_WORDS, clear_memory, download, load,
-};
+pub use memory::{CounterNumber, Dataset, MEMORY_WORDS, clear_memory, download, load};

@@ -32,10 +32,12 @@ impl From<u16> for Request {
     }
 }
 
+const QUEUE_PLACES: usize = 16;
+
 // The requests that wait, the oldest first. Clauses see the list of them.
 #[derive(Clone, Drop)]
 pub struct Queue {
-    requests: ArrayVec<Request, 16>,
+    requests: ArrayVec<Request, QUEUE_PLACES>,
 }
 
 impl Model for Queue {
@@ -98,13 +100,16 @@ impl Queue {
     }
 }
 
+// The last counter.
+const LAST: u16 = COUNTERS as u16 - 1;
+
 // One tick: an idle loader takes the oldest request, a busy one handles the next counter.
 #[tactic(auto, unfolding(crate::specs::Loader::loader_step, crate::specs::Loader::queue_step))]
 pub fn step_loader(loader: &mut Option<Reload>, queue: &mut Queue)
     ensures { (loader.new ≡ loader_step loader.old queue.old) × (queue.new ≡ queue_step loader.old queue.old) }
 {
     match loader {
-        Some(reload) if reload.next < 127 => reload.next += 1,
+        Some(reload) if reload.next < LAST => reload.next += 1,
         Some(_) => *loader = None,
         None => *loader = queue.take().map(|request| Reload { request, next: 0 }),
     }

@@ -8,7 +8,7 @@ use counters::Counter;
 use std::ops::Range;
 
 // The words of a dataset, the datasets, and the words of all.
-pub const DATASET_WORDS: usize = 512;
+const DATASET_WORDS: usize = 512;
 
 const DATASETS: usize = 32;
 

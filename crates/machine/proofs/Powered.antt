@@ -8,9 +8,10 @@ use Rattle.device.specs.declared.state.Crate.{Crate}
 use Rattle.causes.specs.Causes.{Answer}
 use Rattle.device.specs.State.{machine, memory0}
 use Rattle.registers.specs.Calls.{machine0, powered, powered_memory}
+use Rattle.loader.specs.Memory.{memory_words}
 
 -- `words` is the memory lent, `start` the memory powered up
-pub powered_up : (words start : List ℕ) (o : Crate × Answer) → length words ≡ 16384 → (o ≡ powered words) × (start ≡ powered_memory words) →
+pub powered_up : (words start : List ℕ) (o : Crate × Answer) → length words ≡ memory_words → (o ≡ powered words) × (start ≡ powered_memory words) →
     machine o.0 start ≡ machine0
 unfolding powered powered_memory
 powered_up words start o long p =

@@ -16,7 +16,7 @@ ghost use Rattle.causes.specs.declared.Cause.TheVariants.{Memory};
 ghost use Rattle.causes.specs.Causes.{cause_number};
 ghost use Rattle.trace.specs.Run.{progress_of, run as run_run};
 
-use captures::Refusal;
+use captures::{FRAME_BYTES, Refusal};
 use causes::Cause;
 use device::{Crate, OUTPUTS};
 use interlocks::OutputScan;
@@ -24,8 +24,11 @@ use lent::BAD_BUFFER;
 use loader::MEMORY_WORDS;
 use trace::Report;
 
-// The report as five numbers, as the C interface needs them.
-fn put_report(out: &mut [u64; 5], report: Report)
+// The numbers of a report.
+const REPORT_WORDS: usize = 5;
+
+// The report as numbers, as the C interface needs them.
+fn put_report(out: &mut [u64; REPORT_WORDS], report: Report)
     ensures { out.new ≡ report_of report }
 {
     *out = [
@@ -37,21 +40,26 @@ fn put_report(out: &mut [u64; 5], report: Report)
     ];
 }
 
-// The words of the registers from 0x0600 on: 0 where a read is refused.
+// The register image: its first address, and its words.
+const IMAGE_START: u16 = 0x0600;
+
+const IMAGE_WORDS: usize = 0x1400;
+
+// The words of the image: 0 where a read is refused.
 #[tactic(auto, unfolding(crate::specs::Exported::image_of, lists::specs::Table::each))]
-fn put_image(out: &mut [u16; 0x1400], state: &Crate, mem: &[u16])
+fn put_image(out: &mut [u16; IMAGE_WORDS], state: &Crate, mem: &[u16])
     ensures { out.new ≡ image_of (machine state.now mem.now) }
 {
     lists::step_each(out, |k, _| {
-        registers::read(state, mem, 0x0600 + k as u16).unwrap_or(0)
+        registers::read(state, mem, IMAGE_START + k as u16).unwrap_or(0)
     });
 }
 
 // The numbers of a scan: the levels, then the numbers of words read.
-const SCAN_NUMBERS: usize = 2 * OUTPUTS;
+const SCAN_WORDS: usize = 2 * OUTPUTS;
 
 // The scan as numbers.
-fn put_scan(out: &mut [u16; SCAN_NUMBERS], outputs: &[OutputScan; OUTPUTS])
+fn put_scan(out: &mut [u16; SCAN_WORDS], outputs: &[OutputScan; OUTPUTS])
     ensures { out.new ≡ output_numbers outputs.now }
 {
     let (levels, words) = out.split_at_mut(OUTPUTS);
@@ -83,7 +91,7 @@ fn run_and_report(
     mem: &mut [u16],
     bytes: &[u8],
     budget: u64,
-    report: &mut [u64; 5],
+    report: &mut [u64; REPORT_WORDS],
 ) -> (Crate, Report)
     ensures { (run_run (progress_of result.0 result.1 false) mem.new ≡ run_on mem.old bytes.now budget) × (report.new ≡ report_of result.1) }
 {
@@ -148,7 +156,7 @@ pub extern "C" fn mirvacula_scan(
 fn unanswered_code(bytes: usize) -> u16
     ensures { result ≡ unanswered bytes }
 {
-    if bytes % 9 == 0 {
+    if bytes % FRAME_BYTES == 0 {
         BAD_BUFFER
     } else {
         Cause::NotFrames.into()

@@ -14,6 +14,7 @@ use Rattle.machine.proofs.Powered.{powered_up}
 use Rattle.trace.specs.declared.Report.{Report}
 use Rattle.trace.specs.Run.{Run, machine_of, progress_of, run_of, run}
 use Rattle.printing.specs.Printed.{printed, program_bytes, program_prints, program_run, program_ticks}
+use Rattle.loader.specs.Memory.{memory_words}
 
 -- `m` is the machine powered up
 pub prints_from : (input : List ℕ) (n : ℕ) (m : Machine) (s : Crate) (r : Report) (memory : List ℕ) →
@@ -27,7 +28,7 @@ prints_from input n m s r memory taken started e =
 
 -- `words` is the memory lent, `start` the memory powered up
 pub prints : (input : List ℕ) (n : ℕ) (words start : List ℕ) (o : Crate × Answer) (s : Crate) (r : Report) (memory : List ℕ) →
-    n ≡ min (length input) program_bytes → length words ≡ 16384 → o ≡ powered words → start ≡ powered_memory words →
+    n ≡ min (length input) program_bytes → length words ≡ memory_words → o ≡ powered words → start ≡ powered_memory words →
     run (progress_of s r false) memory ≡ run_of (take n input) program_ticks (machine o.0 start) →
     printed r (machine s memory) ≡ program_prints input
 prints input n words start o s r memory taken long po ps e = prints_from input n (machine o.0 start) s r memory taken (powered_up words start o long (po, ps)) e

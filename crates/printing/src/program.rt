@@ -38,11 +38,14 @@ pub fn printed(report: Report, state: &Crate, mem: &[u16]) -> Page
         .put(b'\n')
 }
 
-// What the program prints for its input: its first 65,536 bytes, run from power-up with a program's ticks.
+// The bytes of its input that the program takes.
+const PROGRAM_BYTES: usize = 65_536;
+
+// What the program prints for its input: these bytes, run from power-up with a program's ticks.
 pub fn rehearse(input: &[u8]) -> Page
     ensures { written result ≡ program_prints input.now }
 {
-    let trace = &input[..input.len().min(65_536)];
+    let trace = &input[..input.len().min(PROGRAM_BYTES)];
     let mut machine = Machine::new();
     let report = machine.run(trace, PROGRAM_TICKS);
     printed(report, &machine.state, &machine.mem)

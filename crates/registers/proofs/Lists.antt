@@ -5,8 +5,6 @@ use native.Mathlib.Omega.{arith}
 use mathlib.Core.Bool.{false}
 use mathlib.Core.List.{List, [], ◌∷◌, ◌++◌}
 use mathlib.Core.Path.{◌≡◌, refl, sym}
-use borrow.Author.Tests.{eq-eqb}
-use lib.ListN.{length}
 use Rattle.words.specs.Word.{bit_of}
 use Rattle.lists.specs.Table.{table_from, tabulate}
 use Rattle.registers.specs.Calls.{Call, tick, accepted_ticks, answer, call_answer, from, is_refused, refusals, step, tick_one}

@@ -4,14 +4,12 @@ use native.Mathlib.Nat.{mod-lt, div-add-mod}
 use native.Mathlib.Omega.{arith}
 use mathlib.Core.Bool.{Bool}
 use mathlib.Core.Path.{◌≡◌, ap, ◌∙◌}
-use borrow.Author.Tests.{eq-eqb, le-ltb, lt-ltb}
-use lib.ListN.{length}
+use borrow.Author.Tests.{le-ltb, lt-ltb}
 use Rattle.std.specs.Prelude.{Ok, Some}
 use Rattle.words.specs.Word.{bit}
 use Rattle.words.proofs.Packing.{bit_pack}
 use Rattle.counters.specs.declared.counter.Counter.{Counter}
 use Rattle.counters.specs.Counter.{counter_at, is_over, is_under, overflow_word}
-use Rattle.loader.specs.Memory.{memory_words}
 use Rattle.device.specs.declared.map.Register.TheVariants.{Readout}
 use Rattle.device.specs.declared.map.ReadoutWord.TheVariants.{Negative, Positive}
 use Rattle.device.specs.Map.{decode_of, status_map}

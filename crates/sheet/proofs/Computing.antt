@@ -1,4 +1,4 @@
--- `computing` opens every definition of the sheet and of the crates below it by its `unfolding` line: a proof that says `unfolding computing`
+-- `computing` opens every definition of the sheet and of the packages below it by its `unfolding` line: a proof that says `unfolding computing`
 -- can compute, and no other does.
 use mathlib.Core.Bool.{Bool}
 use mathlib.Core.List.{List}

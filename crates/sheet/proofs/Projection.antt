@@ -21,7 +21,7 @@ use Rattle.counters.specs.Counter.{counter0, counter_at, counter_tick, down_of, 
 use Rattle.gates.specs.Gate.{each_gate, gate0, gate_at, outputs_of}
 use Rattle.lines.specs.Lines.{rise_of, rises_of}
 use Rattle.loader.specs.Loader.{group_at}
-use Rattle.loader.specs.Memory.{place_of, word_at}
+use Rattle.loader.specs.Memory.{memory_words, place_of, word_at}
 use Rattle.gates.proofs.Gates.{gate_bit, gate_bit_past}
 use Rattle.registers.specs.Calls.{machine0}
 use Rattle.registers.proofs.Whole.{WholeMemory}
@@ -153,9 +153,9 @@ gates_start : (mine : ℕ → Bool) → own_gates mine (tabulate 12 (λ g. gate0
 unfolding own_gates gate_at
 gates_start mine = tabulate_ext 12 _ _ (λ g h. rw get_d_tabulate (pick_same (mine g) gate0))
 
-words_start : (c : ℕ) → c < 128 → own_words c (tabulate 16384 (λ a. 0)) ≡ tabulate 128 (λ k. 0)
+words_start : (c : ℕ) → c < 128 → own_words c (tabulate memory_words (λ a. 0)) ≡ tabulate 128 (λ k. 0)
 unfolding own_words word_at own_place
-words_start c c< = tabulate_ext 128 _ _ (λ k h. get_d_tabulate 16384 _ _ 0 (omega arith))
+words_start c c< = tabulate_ext 128 _ _ (λ k h. get_d_tabulate memory_words _ _ 0 (omega arith))
 
 pub start : (S : Lines) (c : ℕ) → c < 128 → sheet_in S c machine0 ≡ sheet0
 unfolding sheet_in power_up memory0 sheet0 counter_at

@@ -25,7 +25,7 @@ use Rattle.gates.specs.Gate.{each_gate, gate0, gate_at, gate_step, with_mode, wi
 use Rattle.lines.specs.Lines.{bad_levels, phase_limit}
 use Rattle.lines.specs.RawCounts.{count_rises, raw_at}
 use Rattle.loader.specs.Loader.{request_for}
-use Rattle.loader.specs.Memory.{loaded, replaced, word_at}
+use Rattle.loader.specs.Memory.{loaded, memory_words, replaced, word_at}
 use Rattle.watchdogs.specs.Watchdog.{reset_in, reset_watchdogs, step_watchdogs, watchdog0, watchdog_at, watchdog_top, with_reset}
 use Rattle.device.specs.declared.map.Register.{Register}
 use Rattle.device.specs.declared.map.Register.TheVariants.{Setting, Shared, Gates, Watchdogs, Input, Group, Word}
@@ -376,8 +376,8 @@ common_start = record {
 reached_start : Reached machine0
 unfolding power_up memory0 counter_at gate_at watchdog_at word_at bit
 reached_start = record {
-  memory = length_tabulate 16384 _;
-  words = all_tabulate 0 (λ i n. n < 2 ^ 16) (λ i. lit< tt) 16384 _ (λ i. lit< tt);
+  memory = length_tabulate memory_words _;
+  words = all_tabulate 0 (λ i n. n < 2 ^ 16) (λ i. lit< tt) memory_words _ (λ i. lit< tt);
   counters = all_tabulate counter0 (λ i. CounterInRange) (λ i. counter0_in) 128 _ (λ i. counter0_in);
   groups = all_tabulate 0 (λ i n. n < 2 ^ 16) (λ i. lit< tt) 32 _ (λ i. lit< tt);
   gates = all_tabulate gate0 (λ i. GateInRange) (λ i. gate0_in) 12 _ (λ i. gate0_in);

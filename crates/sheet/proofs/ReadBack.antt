@@ -46,8 +46,8 @@ use Rattle.device.specs.declared.state.Settings.{Settings}
 use Rattle.causes.specs.declared.Cause.TheVariants.{Address}
 use Rattle.causes.specs.Causes.{Answer}
 use Rattle.registers.specs.Calls.{Call, write, after, answer, called, call_answer, step}
-use Rattle.interlocks.specs.Interlock.{interlocks, other_signals, output_count, selected, signals, trips, trips_by}
-use Rattle.device.specs.Map.{decode_of, kept, kept_at, output_words}
+use Rattle.interlocks.specs.Interlock.{interlocks, other_signals, selected, signals, trips, trips_by}
+use Rattle.device.specs.Map.{decode_of, kept, kept_at, output_count, output_words}
 use Rattle.reading.specs.Read.{gate_word, half_of, read_of, readout_word, setting_word, shared_word, word_in}
 use Rattle.device.specs.State.{Machine, with_common, with_counters, with_gates, with_groups, with_settings, with_watchdogs}
 use Rattle.writing.specs.Write.{control_write, enable_write, gates_write, key_write, reload_answer, reload_write, requested, reset_by, settings_write, shared_answer, shared_clears, shared_write}

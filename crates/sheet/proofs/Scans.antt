@@ -10,9 +10,9 @@ use Rattle.words.specs.Word.{bit}
 use Rattle.words.proofs.Packing.{bit_pack, bit_zero}
 use Rattle.lists.proofs.Tables.{get_d_tabulate, least_at, least_below, least_within}
 use Rattle.loader.specs.Memory.{is_whole}
-use Rattle.device.specs.Map.{decode_of, output_words, status_map}
+use Rattle.device.specs.Map.{decode_of, output_count, output_words, status_map}
 use Rattle.device.specs.State.{Machine}
-use Rattle.interlocks.specs.Interlock.{interlocks, output_count, trips}
+use Rattle.interlocks.specs.Interlock.{interlocks, trips}
 use Rattle.interlocks.specs.Scan.{output_scan, scan_of, words_read}
 use Rattle.interlocks.proofs.Scanning.{words_all}
 use Rattle.reading.specs.Read.{read_of, readout_word, word_in, word_shown}

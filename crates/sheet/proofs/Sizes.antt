@@ -24,6 +24,7 @@ use Rattle.registers.proofs.Keeping.{Any, Change, Keeps, after_keeps, changed, s
 use Rattle.registers.proofs.Whole.{WholeMemory, length_replaced}
 use Rattle.ticking.specs.Tick.{tick_of}
 use Rattle.writing.specs.Write.{gates_write, reset_by, settings_write, with_selected, write_at}
+use Rattle.loader.specs.Memory.{memory_words}
 
 pub record Sized (m : Machine) : Type 0 where
   pub counters : length m.state.counters ≡ 128
@@ -82,7 +83,7 @@ sized_start = record {
   masks = length_tabulate 6 _;
   selections = length_tabulate 6 _;
   blocks = λ o h. ap length (get_d_tabulate 6 (λ o. tabulate 22 (λ k. 0)) o [] h) ∙ length_tabulate 22 _;
-  memory = length_tabulate 16384 _;
+  memory = length_tabulate memory_words _;
 }
 
 pub sized_step : (m : Machine) → Sized m → (x : Call) → Sized (step m x)

@@ -1,4 +1,5 @@
-// A tick of the crate, in document 01's order: phases, rises, gates, counters, watchdogs, loader.
+// A tick of the crate, in document 01's order where one part looks at what another has done: rises, gates, counters, the loader's counter.
+// Watchdogs and raw counts look at the rises alone.
 ghost use Rattle.std.specs.Prelude.{◌≡◌};
 ghost use Rattle.ticking.specs.Tick.{common_tick, handled_by, status_tick, tick_of};
 

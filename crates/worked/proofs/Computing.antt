@@ -1,4 +1,4 @@
--- `computing` opens every definition of the trace and of the crates below it by its `unfolding` line.
+-- `computing` opens every definition of the trace and of the packages below it by its `unfolding` line.
 use mathlib.Core.Bool.{Bool}
 use mathlib.Core.List.{List}
 use Rattle.lists.specs.Checks.{Row, right}
