@@ -4,8 +4,6 @@ use native.Mathlib.Omega.{arith}
 use mathlib.Core.Bool.{true, false}
 use mathlib.Core.List.{List}
 use mathlib.Core.Path.{◌≡◌, refl, sym, ap, ◌∙◌}
-use borrow.Author.Tests.{eq-eqb}
-use lib.ListN.{length}
 use Rattle.device.specs.declared.state.Crate.{Crate}
 use Rattle.registers.proofs.Whole.{WholeMemory, is_whole_lem}
 use Rattle.registers.specs.Calls.{Call, tick, called, from, step}
