@@ -8,7 +8,7 @@
 #include <stddef.h>
 #include <stdint.h>
 
-#define MIRVACULA_VERSION "0.2.0"
+#define MIRVACULA_VERSION "0.3.0"
 
 #define MIRVACULA_MEMORY_WORDS 16384 /* threshold memory */
 #define MIRVACULA_REPORT_WORDS 5     /* stop, next offset, ticks, records passed, records refused */

@@ -302,7 +302,7 @@ class Names(unittest.TestCase):
 
     def test_events_and_other_words(self):
         self.says(bytes.fromhex("03000400A51203" "030004FFFF2081") + writes((0x0A02, 0x1103), (0x1605, 0x0201),
-                                                                            (0x0813, 0xFF21), (0xBFFF, 0), (0x136B, 0)),
+                                                                            (0x0813, 0xFF21), (0xBFFF, 0), (0x136B, 0), (0x0905, 1)),
                   "event 0x00A51203  # offset 0: key 0x00A5, reload dataset 3 into group 2",
                   "event 0xFFFF2081  # offset 7: key 0xFFFF, prepare gates 0,7",
                   "write 0x0A02 0x1103  # offset 14: threshold reload: dataset 3, group 1, TRIGGER 1",
@@ -310,15 +310,16 @@ class Names(unittest.TestCase):
                   "write 0x0813 0xFF21  # offset 28: watchdog resets of inputs 48 to 53: 48,53",
                   "write 0xBFFF 0x0000  # offset 35: dataset 31, counter 127: negative threshold, high word",
                   "write 0x136B 0x0000  # offset 42: raw count of input 53, high word, read-only: refused 3",
-                  "# offset 49: end")
+                  "write 0x0905 0x0001  # offset 49: waiting reload requests, read-only: refused 3",
+                  "# offset 56: end")
 
     def test_size_of_the_map(self):
-        """The map has 16,706 registers to read and write and 914 to read only, none twice."""
+        """The map has 16,706 registers to read and write and 915 to read only, none twice."""
         writable = sum(r.last - r.first + 1 for r in tool.REGISTERS if r.writable)
         read_only = sum(r.last - r.first + 1 for r in tool.REGISTERS if not r.writable)
-        self.assertEqual((writable, read_only), (16706, 914))
+        self.assertEqual((writable, read_only), (16706, 915))
         addresses = {a for r in tool.REGISTERS for a in range(r.first, r.last + 1)}
-        self.assertEqual(len(addresses), 16706 + 914)
+        self.assertEqual(len(addresses), 16706 + 915)
 
 
 class Commands(unittest.TestCase):

@@ -113,6 +113,7 @@ REGISTERS = [
     Register(0x0902, 0x0902, 0xFFFF, False, fixed("last accepted tag")),
     Register(0x0903, 0x0903, 0x0003, False, fixed("loader state")),
     Register(0x0904, 0x0904, 0x007F, False, fixed("last counter handled by the loader")),
+    Register(0x0905, 0x0905, 0x001F, False, fixed("waiting reload requests")),
     Register(EVENT_KEY, 0x0A00, 0xFFFF, True, fixed("event key")),
     Register(EVENT_CONTROL, 0x0A01, 0x0001, True, fixed("events on (bit 0)")),
     Register(RELOAD, 0x0A02, 0x1FFF, True, fixed("threshold reload")),

@@ -214,6 +214,6 @@ fn any_write(trace: &mut Trace, dice: &mut Dice) {
         12 => trace.write(0x0A03 + word % 2, dice.word()),
         13 => trace.write(dice.one_of(&[0x0800, 0x0801, 0x0802]), word & 0x0FFE),
         14 => trace.write(0x0630 + word % 16, dice.word()),
-        _ => trace.write(dice.one_of(&[0x0700, 0x0900, 0x1200, 0x1800, 0xC000, 0x0905]), word),
+        _ => trace.write(dice.one_of(&[0x0700, 0x0900, 0x1200, 0x1800, 0xC000, 0x0905, 0x0906]), word),
     }
 }

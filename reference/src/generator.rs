@@ -635,7 +635,7 @@ pub const BLOCKS: [(&str, u16, u16); 47] = [
     ("gap after the resets", 0x0814, 0x08FF),
     ("event tag and code", 0x0900, 0x0902),
     ("loader state", 0x0903, 0x0904),
-    ("0x0905, not modelled", 0x0905, 0x0905),
+    ("queue length", 0x0905, 0x0905),
     ("gap after event status", 0x0906, 0x09FF),
     ("event key", 0x0A00, 0x0A00),
     ("event control", 0x0A01, 0x0A01),

@@ -2,7 +2,7 @@
 //!
 //! "01" is the scope paper, "02" the change requests, "Manual" the Unilac-BLM
 //! Programmer's Manual ver. 0.1. Where two speak, 02 decides, then 01. Of 02,
-//! requests 1 to 4 are in.
+//! requests 1 to 5 are in.
 #![forbid(unsafe_code)]
 
 pub mod capture;

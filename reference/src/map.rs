@@ -1,5 +1,5 @@
-//! The register map: Manual 3.2.3 to 3.2.14, less 0x071D and 0x0905, which
-//! 01 does not model, and the raw counts of 02.
+//! The register map: Manual 3.2.3 to 3.2.14, less 0x071D, which 01 does not
+//! model, and of 02 the raw counts and what 0x0905 reads.
 
 use crate::numbers::GATE_BITS;
 
@@ -26,6 +26,7 @@ pub enum Register {
     Code,
     LoaderState,
     LoaderIterator,
+    QueueLength,
     EventKey,
     EventControl,
     ThresholdReload,
@@ -56,7 +57,7 @@ pub fn register(address: u16) -> Option<Register> {
         0x0638..=0x063D => Some(Register::ModuleId(at - 0x0638)),
         0x0700..=0x071C => status(at),
         0x0800..=0x0813 => control(at),
-        0x0900..=0x0904 => event_status(at),
+        0x0900..=0x0905 => event_status(at),
         0x0A00..=0x0A04 => event_control(at),
         0x1000..=0x107F => Some(Register::Input(at - 0x1000)),
         0x1100..=0x11BF => output_selection(at - 0x1100),
@@ -106,6 +107,8 @@ fn event_status(at: usize) -> Option<Register> {
         0x0902 => Some(Register::Code),
         0x0903 => Some(Register::LoaderState),
         0x0904 => Some(Register::LoaderIterator),
+        // 02, CR 5
+        0x0905 => Some(Register::QueueLength),
         _ => None,
     }
 }
@@ -146,6 +149,7 @@ pub fn read_only(register: Register) -> bool {
             | Code
             | LoaderState
             | LoaderIterator
+            | QueueLength
             | Count(_)
             | RawCount(_)
             | Threshold(_)
@@ -173,16 +177,16 @@ mod tests {
     use super::*;
 
     #[test]
-    fn the_map_has_17620_addresses_of_which_914_are_read_only() {
+    fn the_map_has_17621_addresses_of_which_915_are_read_only() {
         let named: Vec<Register> = (0..=0xFFFF).filter_map(register).collect();
-        assert_eq!(named.len(), 17_620);
-        assert_eq!(named.iter().filter(|r| read_only(**r)).count(), 914);
+        assert_eq!(named.len(), 17_621);
+        assert_eq!(named.iter().filter(|r| read_only(**r)).count(), 915);
     }
 
     #[test]
     fn registers_not_modelled_are_not_in_the_map() {
         let gaps = [0x0715, 0x0716, 0x0803, 0x0636, 0x0637, 0x1116, 0x11B6, 0x136C, 0x15FF, 0xC000];
-        for address in gaps.into_iter().chain([0x071D, 0x0905]) {
+        for address in gaps.into_iter().chain([0x071D, 0x0906]) {
             assert_eq!(register(address), None, "{address:#06x}");
         }
     }

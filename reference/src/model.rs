@@ -386,6 +386,8 @@ impl Crate {
             // 01, Writes: "0x0903 reads 3 while the loader is busy, else 0"
             Register::LoaderState => if self.loader.busy() { 3 } else { 0 },
             Register::LoaderIterator => self.loader.last_handled as u16,
+            // 02, CR 5: "the number of waiting requests, 0 to 16"
+            Register::QueueLength => self.loader.queue.len() as u16,
             Register::EventKey => self.event_key,
             Register::EventControl => self.event_control,
             Register::ThresholdReload => self.threshold_reload,

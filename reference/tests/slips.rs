@@ -97,6 +97,29 @@ fn loader_state_and_iterator() {
 }
 
 #[test]
+fn the_queue_length_leaves_out_the_request_at_work() {
+    let (mut device, mut memory) = new_crate();
+    writes(&mut device, &mut memory, &[(0x0A01, 1), (0x0A02, 0x1000)]);
+    assert_eq!(word(&device, &memory, 0x0905), 1);
+    for waiting in 2..=16 {
+        assert_eq!(device.tag(&memory, 0x1000), 0);
+        assert_eq!(word(&device, &memory, 0x0905), waiting);
+    }
+    assert_eq!(device.tag(&memory, 0x1000), 5);
+    assert_eq!(word(&device, &memory, 0x0905), 16);
+    // The taking tick, 128 counters, the next taking tick.
+    ticks(&mut device, &memory, 1, 0, 0);
+    assert_eq!(word(&device, &memory, 0x0905), 15);
+    ticks(&mut device, &memory, 128, 0, 0);
+    assert_eq!(word(&device, &memory, 0x0905), 15);
+    ticks(&mut device, &memory, 1, 0, 0);
+    assert_eq!(word(&device, &memory, 0x0905), 14);
+    assert_eq!(device.write(&mut memory, 0x0905, 0), 3);
+    assert_eq!(word(&device, &memory, 0x0905), 14);
+    assert_eq!(device.write(&mut memory, 0x0906, 0), 2);
+}
+
+#[test]
 fn a_refused_request_leaves_trigger_clear() {
     let (mut device, mut memory) = new_crate();
     assert_eq!(device.write(&mut memory, 0x0A02, 0xF020), 4);

@@ -13,7 +13,7 @@ pub struct Loader {
     /// A ring: the oldest request stands at `first`.
     queue: [Request; QUEUE_PLACES],
     first: usize,
-    waiting: usize,
+    pub waiting: usize,
     pub busy: bool,
     request: Request,
     next: usize,

@@ -17,7 +17,7 @@ impl Crate {
             0x0800..=0x0813 => return self.write_control(at, word),
             0x0A00..=0x0A04 => return self.write_event_control(at, word),
             0x0638..=0x063D | 0x0700..=0x0714 | 0x0717..=0x071C => return READ_ONLY,
-            0x0900..=0x0904 | 0x1200..=0x12FF | 0x1300..=0x136B | 0x1800..=0x19FF => return READ_ONLY,
+            0x0900..=0x0905 | 0x1200..=0x12FF | 0x1300..=0x136B | 0x1800..=0x19FF => return READ_ONLY,
             _ => return NOT_IN_MAP,
         }
         ACCEPTED

@@ -1,6 +1,6 @@
 -- The theorems about lists of calls, of the code: a crate and memory that went through `power_up`, calls, reads, scans and trace runs, by the
 -- contracts of those functions alone, are those of `after`. So each theorem holds of what the functions return.
-use Prim.Native.Nat.{ℕ, suc, ◌+◌, ◌*◌, ◌/◌, ◌≤◌, ◌<◌}
+use Prim.Native.Nat.{ℕ, suc, ◌+◌, ◌-◌, ◌*◌, ◌/◌, ◌≤◌, ◌<◌}
 use mathlib.Core.Bool.{true, false}
 use mathlib.Core.List.{List, [], ◌∷◌, ◌++◌}
 use mathlib.Core.Path.{◌≡◌, refl, sym, ap, subst, ◌∙◌}
@@ -32,9 +32,10 @@ use Rattle.sheet.specs.Scans.{scan_at}
 use Rattle.sheet.specs.Settled.{SettledCut, settled, settled_part_of}
 use Rattle.sheet.specs.Sheet.{sheet_after, sheet_shows}
 use Rattle.sheet.specs.Shows.{shows}
+use Rattle.sheet.specs.Waiting.{requests_made, requests_taken}
 use Rattle.sheet.proofs.Sizes.{full_after}
 use Rattle.sheet.proofs.Isolation.{holds_begin}
-use Rattle.sheet.proofs.Theorems.{alike, alike_cut, alike_settled, alike_settled_cut, finishes, isolation_each, isolation_within, raw_alike, raw_reads, reachable, read_back, read_other, refused, run_records, run_refusals, run_sound, run_stops, run_ticks, scan_ends, scan_least, scan_level, scan_whole, stands}
+use Rattle.sheet.proofs.Theorems.{alike, alike_cut, alike_settled, alike_settled_cut, finishes, isolation_each, isolation_within, raw_alike, raw_reads, reachable, read_back, read_other, refused, run_records, run_refusals, run_sound, run_stops, run_ticks, scan_ends, scan_least, scan_level, scan_whole, stands, waiting_reads}
 use Rattle.sheet.proofs.Kept.{holds_all}
 use Rattle.trace.specs.declared.Report.{Report}
 use Rattle.trace.specs.Passed.{calls_in, passed_in}
@@ -83,6 +84,10 @@ module _ (l : List Act) (n : Machine) (h : Rehearsed l n) where
   -- a read of a raw count
   pub code_raw_reads : (j : ℕ) → j < 108 → (q : Result ℕ Cause) → Looked n (0x1300 + j) q → q ≡ Ok (low_first j (raw_count (j / 2) (list_of l)))
   code_raw_reads j b q look = code_read (0x1300 + j) q look ∙ raw_reads j b (list_of l)
+
+  -- a read of the queue's length
+  pub code_waiting_reads : (q : Result ℕ Cause) → Looked n 0x0905 q → q ≡ Ok (requests_made (list_of l) - requests_taken (list_of l))
+  code_waiting_reads q look = code_read 0x0905 q look ∙ waiting_reads (list_of l)
 
   -- what a scan after the list returns
   pub code_scan : (q : Result (List OutputScan) Cause) → Scanned n q → q ≡ scan_of (after (list_of l))

@@ -34,6 +34,7 @@ use Rattle.sheet.specs.Scans.{scan_at}
 use Rattle.sheet.specs.Settled.{SettledCut, settled, settled_part_of}
 use Rattle.sheet.specs.Sheet.{sheet_after, sheet_shows}
 use Rattle.sheet.specs.Shows.{shows}
+use Rattle.sheet.specs.Waiting.{requests_made, requests_taken}
 use Rattle.sheet.proofs.Sizes.{full_after}
 use Rattle.sheet.proofs.Theorems.{run_records, run_refusals, run_sound, run_ticks}
 use Rattle.trace.specs.declared.Report.{Report}
@@ -232,6 +233,10 @@ module _ (l : List Act) (n : Machine) (h : Rehearsed l n) where
   -- of a raw count the low and the high word of the number of rises of its input,
   pub code_raw_reads : (j : ℕ) → j < 108 → (q : Result ℕ Cause) → Looked n (0x1300 + j) q → q ≡ Ok (low_first j (raw_count (j / 2) (list_of l)))
   code_raw_reads = returning.code_raw_reads l n h
+
+  -- of the queue's length the requests that the calls have made less those that the loader has taken,
+  pub code_waiting_reads : (q : Result ℕ Cause) → Looked n 0x0905 q → q ≡ Ok (requests_made (list_of l) - requests_taken (list_of l))
+  code_waiting_reads = returning.code_waiting_reads l n h
 
   -- after an accepted write of the same register the written word less its unused bits,
   pub code_read_back : (a w : ℕ) (given : Answer) (k : Machine) → Returned n (write a w) given k → given ≡ Ok tt →

@@ -6,7 +6,7 @@ use mathlib.Core.Path.{◌≡◌, refl}
 use Rattle.lists.specs.Checks.{Row, row, right}
 use Rattle.device.specs.declared.map.GateWord.TheVariants.{Mode, Timeout, Prepare, Recover}
 use Rattle.device.specs.declared.map.ReadoutWord.TheVariants.{Module, Negative, Positive, GateErrors, WatchdogErrors, GateInputs, GateOutputs, Outputs}
-use Rattle.device.specs.declared.map.ReadoutWord.TheVariants.{GateStates, TagLow, TagHigh, Code, LoaderState, LoaderCounter, Count, Raw, Threshold}
+use Rattle.device.specs.declared.map.ReadoutWord.TheVariants.{GateStates, TagLow, TagHigh, Code, LoaderState, LoaderCounter, QueueLength, Count, Raw, Threshold}
 use Rattle.device.specs.declared.map.Register.TheVariants.{Readout, Setting, Shared, Gates, Watchdogs, Input, Group, Word}
 use Rattle.device.specs.declared.map.SettingWord.TheVariants.{Mask, WatchdogTimeout, Selection}
 use Rattle.device.specs.declared.map.SharedWord.TheVariants.{Control, Key, Enable, Reload}
@@ -14,7 +14,8 @@ use Rattle.device.specs.Map.{used_bits}
 
 unfoldable pub figures : List Row
 figures =
-    -- read-only registers; watchdogs 48 to 53 stand in word 3, twelve gates, six outputs, 0x0903 reads 3, 0x0904 a counter up to 127
+    -- read-only registers; watchdogs 48 to 53 stand in word 3, twelve gates, six outputs, 0x0903 reads 3, 0x0904 a counter up to 127, 0x0905 a number up
+    -- to 16
     row 16 (used_bits (Readout (Module 0)))
     ∷ row 16 (used_bits (Readout (Negative 0)))
     ∷ row 16 (used_bits (Readout (Positive 0)))
@@ -30,6 +31,7 @@ figures =
     ∷ row 16 (used_bits (Readout Code))
     ∷ row 2 (used_bits (Readout LoaderState))
     ∷ row 7 (used_bits (Readout LoaderCounter))
+    ∷ row 5 (used_bits (Readout QueueLength))
     ∷ row 16 (used_bits (Readout (Count 0)))
     ∷ row 16 (used_bits (Readout (Raw 0)))
     ∷ row 16 (used_bits (Readout (Threshold 0)))

@@ -1,5 +1,5 @@
--- The register map: the Manual's sections 3.2.3 to 3.2.14 as document 01, "Writes and event tags", settles them; and the raw counts of
--- document 02, request 1.
+-- The register map: the Manual's sections 3.2.3 to 3.2.14 as document 01, "Writes and event tags", settles them; the raw counts of
+-- document 02, request 1, and the queue's length of request 5.
 use Rattle.std.specs.Prelude.{ℕ, ◌-◌, ◌/◌, ◌%◌, Option, Some, None, eqb, ltb}
 use Rattle.std.specs.Option.{option_map_or}
 use Rattle.bools.specs.Pick.{pick}
@@ -9,7 +9,7 @@ use Rattle.device.specs.declared.map.GateWord.{GateWord}
 use Rattle.device.specs.declared.map.GateWord.TheVariants.{Mode, Timeout, Prepare, Recover}
 use Rattle.device.specs.declared.map.ReadoutWord.{ReadoutWord}
 use Rattle.device.specs.declared.map.ReadoutWord.TheVariants.{Module, Negative, Positive, GateErrors, WatchdogErrors, GateInputs, GateOutputs, Outputs}
-use Rattle.device.specs.declared.map.ReadoutWord.TheVariants.{GateStates, TagLow, TagHigh, Code, LoaderState, LoaderCounter, Count, Raw, Threshold}
+use Rattle.device.specs.declared.map.ReadoutWord.TheVariants.{GateStates, TagLow, TagHigh, Code, LoaderState, LoaderCounter, QueueLength, Count, Raw, Threshold}
 use Rattle.device.specs.declared.map.Register.{Register}
 use Rattle.device.specs.declared.map.Register.TheVariants.{Readout, Setting, Shared, Gates, Watchdogs, Input, Group, Word}
 use Rattle.device.specs.declared.map.SettingWord.{SettingWord}
@@ -74,7 +74,7 @@ control_map a =
     (below a 0x0814 (Some (Watchdogs (a - 0x0810)))  -- CTRL WD_RESET
     None)))))
 
--- for 0x0900 to 0x0FFF; 0x0905 THR_LOADER_ENQ_STATE is not modelled
+-- for 0x0900 to 0x0FFF; what 0x0905 reads is of document 02, request 5, as the Manual leaves it open
 unfoldable pub event_map : ℕ → Option Register
 event_map a =
     below a 0x0901 (Some (Readout TagLow))  -- EVT_STATUS TAG_LOW
@@ -82,13 +82,14 @@ event_map a =
     (below a 0x0903 (Some (Readout Code))  -- EVT_STATUS CODE
     (below a 0x0904 (Some (Readout LoaderState))  -- EVT_STATUS THR_LOADER_STATE
     (below a 0x0905 (Some (Readout LoaderCounter))  -- EVT_STATUS THR_LOADER_ITER
+    (below a 0x0906 (Some (Readout QueueLength))  -- EVT_STATUS THR_LOADER_ENQ_STATE
     (below a 0x0A00 None
     (below a 0x0A01 (Some (Shared Key))  -- EVT_CTRL KEY
     (below a 0x0A02 (Some (Shared Enable))  -- EVT_CTRL CTRL
     (below a 0x0A03 (Some (Shared Reload))  -- EVT_CTRL THR_RELOAD
     (below a 0x0A04 (Some (Gates Prepare))  -- EVT_CTRL GATE_PREP
     (below a 0x0A05 (Some (Gates Recover))  -- EVT_CTRL GATE_RECOVER
-    None))))))))))
+    None)))))))))))
 
 -- for 0x1000 on
 unfoldable pub counter_map : ℕ → Option Register
@@ -133,6 +134,7 @@ readout_bits GateOutputs = 12
 readout_bits Outputs = 6
 readout_bits LoaderState = 2
 readout_bits LoaderCounter = 7
+readout_bits QueueLength = 5
 readout_bits q = 16
 
 abbrev pub setting_bits : SettingWord → ℕ

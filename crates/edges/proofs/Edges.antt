@@ -15,7 +15,7 @@ use Rattle.device.specs.declared.map.GateWord.{GateWord}
 use Rattle.device.specs.declared.map.GateWord.TheVariants.{Mode, Timeout, Prepare, Recover}
 use Rattle.device.specs.declared.map.ReadoutWord.{ReadoutWord}
 use Rattle.device.specs.declared.map.ReadoutWord.TheVariants.{Module, Negative, Positive, GateErrors, WatchdogErrors, GateInputs, GateOutputs, Outputs}
-use Rattle.device.specs.declared.map.ReadoutWord.TheVariants.{GateStates, TagLow, TagHigh, Code, LoaderState, LoaderCounter, Count, Raw, Threshold}
+use Rattle.device.specs.declared.map.ReadoutWord.TheVariants.{GateStates, TagLow, TagHigh, Code, LoaderState, LoaderCounter, QueueLength, Count, Raw, Threshold}
 use Rattle.device.specs.declared.map.Register.{Register}
 use Rattle.device.specs.declared.map.Register.TheVariants.{Readout, Setting, Shared, Gates, Watchdogs, Input, Group, Word}
 use Rattle.device.specs.declared.map.SettingWord.{SettingWord}
@@ -261,6 +261,7 @@ readout_address TagHigh = 0x0901  -- TAG_HIGH
 readout_address Code = 0x0902  -- CODE
 readout_address LoaderState = 0x0903  -- THR_LOADER_STATE
 readout_address LoaderCounter = 0x0904  -- THR_LOADER_ITER
+readout_address QueueLength = 0x0905  -- THR_LOADER_ENQ_STATE
 readout_address (Count k) = in_block 0x1200 256 k  -- CTR_READOUT
 readout_address (Raw k) = in_block 0x1300 108 k  -- document 02, request 1
 readout_address (Threshold k) = in_block 0x1800 512 k  -- THR
@@ -308,8 +309,8 @@ summed (suc n) sum = summed n (sum + option_map_or (word_in machine0) (decode_of
 
 unfoldable pub map_rows : List Row
 map_rows =
-    -- the 1,236 registers below the threshold memory, each at its own address; the memory's ends
-    row 1236 (placed 0x1A00 0)
+    -- the 1,237 registers below the threshold memory, each at its own address; the memory's ends
+    row 1237 (placed 0x1A00 0)
     ∷ row 0x8000 (named (decode_of 0x8000))
     ∷ row 0xBFFF (named (decode_of 0xBFFF))
     ∷ []

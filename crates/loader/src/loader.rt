@@ -82,6 +82,13 @@ impl Queue {
         self.requests.is_full()
     }
 
+    // How many wait.
+    pub fn waiting(&self) -> u16
+        ensures { result ≡ length self.now }
+    {
+        self.requests.len() as u16
+    }
+
     // A request behind those that wait.
     #[tactic(auto, unfolding(crate::specs::Loader::pushed))]
     pub fn push(&mut self, request: Request)

@@ -86,6 +86,7 @@ fn readout_word(s: &Crate, q: ReadoutWord) -> u16
         ReadoutWord::Code => events.code,
         ReadoutWord::LoaderState => loader_state(s.common.loader),
         ReadoutWord::LoaderCounter => events.handled,
+        ReadoutWord::QueueLength => s.common.queue.waiting(),
         ReadoutWord::Count(k) => half(k, at(&s.counters, k / 2).count),
         ReadoutWord::Raw(k) => low_first(k, at(&s.status.rawcounts, k / 2)),
         ReadoutWord::Threshold(k) => half(k, threshold(k % 4, at(&s.counters, k / 4))),

@@ -13,7 +13,7 @@ use Rattle.device.specs.declared.map.GateWord.{GateWord}
 use Rattle.device.specs.declared.map.GateWord.TheVariants.{Mode, Timeout, Prepare, Recover}
 use Rattle.device.specs.declared.map.ReadoutWord.{ReadoutWord}
 use Rattle.device.specs.declared.map.ReadoutWord.TheVariants.{Module, Negative, Positive, GateErrors, WatchdogErrors, GateInputs, GateOutputs, Outputs}
-use Rattle.device.specs.declared.map.ReadoutWord.TheVariants.{GateStates, TagLow, TagHigh, Code, LoaderState, LoaderCounter, Count, Raw, Threshold}
+use Rattle.device.specs.declared.map.ReadoutWord.TheVariants.{GateStates, TagLow, TagHigh, Code, LoaderState, LoaderCounter, QueueLength, Count, Raw, Threshold}
 use Rattle.device.specs.declared.map.SettingWord.{SettingWord}
 use Rattle.device.specs.declared.map.SettingWord.TheVariants.{Mask, WatchdogTimeout, Selection}
 use Rattle.device.specs.declared.map.SharedWord.{SharedWord}
@@ -37,6 +37,7 @@ readout_address TagHigh = 0x0901
 readout_address Code = 0x0902
 readout_address LoaderState = 0x0903
 readout_address LoaderCounter = 0x0904
+readout_address QueueLength = 0x0905
 readout_address (Count k) = 0x1200 + k
 readout_address (Raw k) = 0x1300 + k
 readout_address (Threshold k) = 0x1800 + k

@@ -23,18 +23,18 @@ use Rattle.device.specs.declared.state.Common.{Common}
 use Rattle.causes.specs.Causes.{is_done}
 use Rattle.registers.specs.Calls.{Call, tick, write, tag, accepted_ticks, after, called, from, step, tick_one}
 use Rattle.device.specs.Map.{kept}
-use Rattle.device.specs.State.{Machine, power_up}
+use Rattle.device.specs.State.{Machine}
 use Rattle.tagging.specs.Tag.{command_of, commanded, events_on, right_key, tag_of, tag_request}
 use Rattle.ticking.specs.Tick.{common_tick, tick_of}
 use Rattle.lines.specs.Lines.{bad_levels}
 use Rattle.writing.specs.Write.{control_write, dataset_in, enable_write, group_in, key_write, reload_answer, reload_write, request_answer, requested, shared_write, triggers, with_reload, write_at}
-use Rattle.registers.proofs.Keeping.{Change, Keeps, Untimed, after_keeps, asked, called_keeps, changed, step_keeps, timed, written}
+use Rattle.registers.proofs.Keeping.{Change, Keeps, Untimed, asked, called_keeps, changed, step_keeps, timed, written}
 use Rattle.registers.proofs.Whole.{WholeMemory, full, step_called}
 use Rattle.sheet.specs.Reachable.{CommonInRange, LoaderInRange}
 use Rattle.sheet.specs.Requests.{Stand, Stands, finished, loading, made_by, past, queued, request_made, stand_after, stand_step, stand_tick, ticks_at_work, ticks_left, waits, works}
 use Rattle.sheet.proofs.Addresses.{decode_reload}
 use Rattle.sheet.proofs.InRange.{taken}
-use Rattle.sheet.proofs.Reached.{common_start, common_tick_in, range_changed, range_keeps, reload_in}
+use Rattle.sheet.proofs.Reached.{common_tick_in, range_after, range_changed, range_keeps, reload_in}
 use Rattle.sheet.proofs.Sizes.{full_after}
 
 -- ---- a tick of the loader and the queue, at a request that stands somewhere
@@ -277,10 +277,6 @@ finished_at_zero cm r s n st e = grind arith
 
 work_le : (l : Option Reloading) → ticks_at_work l ≤ 128
 work_le l = grind arith
-
-range_after : (l : List Call) → CommonInRange (after l).state.common
-unfolding power_up
-range_after = after_keeps range_keeps common_start
 
 module _ (l : List Call) (x : Call) (r : Request) (made : request_made (after l) x ≡ Some r) where
   due_after : (k : List Call) →

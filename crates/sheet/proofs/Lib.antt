@@ -21,3 +21,4 @@ pub mod SharedRows
 pub mod Sizes
 pub mod Squares
 pub mod Theorems
+pub mod Waiting

@@ -104,7 +104,8 @@ part_cases =
     ∷ case (behind []) (part3 (write 0x1002 0x2140 ∷ write 0x1004 0x2140 ∷ write 0x1601 0x5ABC ∷ write 0x0805 7 ∷ write 0x0807 7 ∷ []))
     ∷ case (behind []) (part3 (write 0x800B 9 ∷ write 0x8010 9 ∷ write 0x820B 9 ∷ write 0xBE10 9 ∷ []))
     ∷ case (behind []) (part3 (write 0x0630 1 ∷ write 0x0800 0 ∷ write 0x0810 1 ∷ write 0x1108 8 ∷ write 0x1115 4 ∷ []))
-    ∷ case (behind []) (part3 (write 0x0700 1 ∷ write 0x1206 1 ∷ write 0x180C 1 ∷ write 0x0803 1 ∷ write 0x0905 1 ∷ write 0xC000 1 ∷ []))
+    ∷ case (behind []) (part3 (write 0x0700 1 ∷ write 0x1206 1 ∷ write 0x180C 1 ∷ write 0x0803 1 ∷ write 0x0905 1 ∷ write 0x0906 1 ∷ write 0xC000 1
+    ∷ []))
     ∷ case (grouped 0 ∷ []) (own_part_of 3 (write 0x0806 7 ∷ write 0x1600 0x0FFF ∷ []))
     -- "of a tag, all but the bits of other gates in commands 0x2 and 0x3"
     ∷ case (behind (tagged 0xBEEF_2004 ∷ tagged 0xBEEF_3000 ∷ [])) (part3 (tag 0xBEEF_2FFF ∷ tag 0xBEEF_3FFB ∷ []))
@@ -256,8 +257,8 @@ queue_cases =
 abbrev looked : List ℕ
 looked =
     0x0630 ∷ 0x0638 ∷ 0x0700 ∷ 0x0707 ∷ 0x0708 ∷ 0x070F ∷ 0x0710 ∷ 0x0711 ∷ 0x0712 ∷ 0x0714 ∷ 0x0717 ∷ 0x0718 ∷ 0x0719 ∷ 0x071A ∷ 0x0800 ∷ 0x0801
-    ∷ 0x0802 ∷ 0x0804 ∷ 0x0810 ∷ 0x0900 ∷ 0x0901 ∷ 0x0902 ∷ 0x0903 ∷ 0x0904 ∷ 0x0A00 ∷ 0x0A01 ∷ 0x0A02 ∷ 0x0A03 ∷ 0x0A04 ∷ 0x1000 ∷ 0x1100
-    ∷ 0x1200 ∷ 0x12FF ∷ 0x1300 ∷ 0x1600 ∷ 0x1800 ∷ 0x8000 ∷ 0xC000 ∷ []
+    ∷ 0x0802 ∷ 0x0804 ∷ 0x0810 ∷ 0x0900 ∷ 0x0901 ∷ 0x0902 ∷ 0x0903 ∷ 0x0904 ∷ 0x0905 ∷ 0x0906 ∷ 0x0A00 ∷ 0x0A01 ∷ 0x0A02 ∷ 0x0A03 ∷ 0x0A04
+    ∷ 0x1000 ∷ 0x1100 ∷ 0x1200 ∷ 0x12FF ∷ 0x1300 ∷ 0x1600 ∷ 0x1800 ∷ 0x8000 ∷ 0xC000 ∷ []
 
 abbrev following : ℕ → List ℕ → List ℕ
 following a [] = []
@@ -274,15 +275,17 @@ follow_cases =
     -- selection words: interlocks
     ∷ case (0x0719 ∷ []) (following 0x1100 looked)
     ∷ case (0x0719 ∷ []) (following 0x11B5 looked)
+    -- 0x0A02: the queue's length
+    ∷ case (0x0905 ∷ []) (following 0x0A02 looked)
     -- and no other write
     ∷ case [] (following 0x0630 looked)
     ∷ case [] (following 0x0700 looked)
     ∷ case [] (following 0x0800 looked)
     ∷ case [] (following 0x0802 looked)
     ∷ case [] (following 0x0804 looked)
+    ∷ case [] (following 0x0905 looked)
     ∷ case [] (following 0x0A00 looked)
     ∷ case [] (following 0x0A01 looked)
-    ∷ case [] (following 0x0A02 looked)
     ∷ case [] (following 0x0A03 looked)
     ∷ case [] (following 0x0A04 looked)
     ∷ case [] (following 0x1000 looked)

@@ -46,7 +46,7 @@ use Rattle.interlocks.specs.Interlock.{selected}
 use Rattle.tagging.specs.Tag.{tag_request}
 use Rattle.ticking.specs.Tick.{common_tick, status_tick, tick_of}
 use Rattle.writing.specs.Write.{control_write, dataset_in, enable_write, group_in, key_write, on_common, on_counters, reload_answer, reload_write, request_answer, requested, reset_by, gates_write, settings_write, shared_write, with_reload, with_selected, write_at}
-use Rattle.registers.proofs.Keeping.{Any, Change, Keeps, asked, changed, cleared_all, list_keeps, noted, prepared, recovered, written}
+use Rattle.registers.proofs.Keeping.{Any, Change, Keeps, after_keeps, asked, changed, cleared_all, list_keeps, noted, prepared, recovered, written}
 use Rattle.registers.proofs.Whole.{WholeMemory, accepted, length_replaced}
 use Rattle.sheet.specs.Reachable.{CommonInRange, CounterInRange, GateInRange, OfWords, Reached, SettingsInRange, StatusInRange}
 use Rattle.sheet.proofs.InRange.{cleared_in, counter0_in, gate_in_lem, input_in, load_all, load_in, loader_in, phases_in, pushed_in, queue_in, request0_in, taken, tick_in, watchdog_in}
@@ -359,7 +359,7 @@ pub range_keeps : Keeps Any (λ m. CommonInRange m.state.common)
 unfolding tick_of
 range_keeps = record { change = range_changed; tick = λ m h inputs gates c e. common_tick_in m.state.common h; download = λ m h d words c e. h }
 
-pub common_start : CommonInRange common0
+common_start : CommonInRange common0
 common_start = record {
   control = lit< tt;
   key = lit< tt;
@@ -372,6 +372,10 @@ common_start = record {
   loader = tt;
   phases = all_tabulate 0 (λ k n. n < phase_limit) (λ k. lit< tt) 9 _ (λ k. lit< tt);
 }
+
+pub range_after : (l : List Call) → CommonInRange (after l).state.common
+unfolding power_up
+range_after = after_keeps range_keeps common_start
 
 reached_start : Reached machine0
 unfolding power_up memory0 counter_at gate_at watchdog_at word_at bit

@@ -35,7 +35,7 @@ use Rattle.device.specs.declared.map.Register.TheVariants.{Readout, Setting, Sha
 use Rattle.device.specs.declared.map.GateWord.{GateWord}
 use Rattle.device.specs.declared.map.GateWord.TheVariants.{Mode, Timeout, Prepare, Recover}
 use Rattle.device.specs.declared.map.ReadoutWord.{ReadoutWord}
-use Rattle.device.specs.declared.map.ReadoutWord.TheVariants.{Negative, Positive, Outputs, Count}
+use Rattle.device.specs.declared.map.ReadoutWord.TheVariants.{Negative, Positive, Outputs, QueueLength, Count}
 use Rattle.device.specs.declared.map.SettingWord.{SettingWord}
 use Rattle.device.specs.declared.map.SettingWord.TheVariants.{Mask, WatchdogTimeout, Selection}
 use Rattle.device.specs.declared.map.SharedWord.{SharedWord}
@@ -357,9 +357,15 @@ busy_same : (p : SharedWord) (w : ℕ) (cm : Common) → busy (shared_write p w 
 unfolding shared_write control_write key_write enable_write reload_write requested
 busy_same p w cm = grind arith
 
-readout_common : (s : Crate) (x : Common) → busy x.loader ≡ busy s.common.loader → (q : ReadoutWord) → readout_word (with_common s x) q ≡ readout_word s q
+queue_same : (p : SharedWord) (w : ℕ) (cm : Common) → follows (Shared p) (Readout QueueLength) ≡ false → (shared_write p w cm).queue ≡ cm.queue
+unfolding shared_write control_write key_write enable_write
+queue_same p w cm f = grind arith
+
+readout_common : (r : Register) (s : Crate) (x : Common) → busy x.loader ≡ busy s.common.loader →
+    (follows r (Readout QueueLength) ≡ false → x.queue ≡ s.common.queue) →
+    (q : ReadoutWord) → follows r (Readout q) ≡ false → readout_word (with_common s x) q ≡ readout_word s q
 unfolding readout_word interlocks trips signals
-readout_common s x e q = grind arith
+readout_common r s x e h q f = grind arith
 
 readout_groups : (s : Crate) (x : List ℕ) (q : ReadoutWord) → readout_word (with_groups s x) q ≡ readout_word s q
 unfolding readout_word interlocks trips signals
@@ -375,7 +381,8 @@ other_register m s (Setting p) l w (Readout q) d f = readout_settings p w m.stat
 other_register m s (Setting p) l w (Setting q) d f = setting_other p q w m.state.settings d
 other_register m s (Setting p) l w q d f = refl
 other_register m s (Shared p) l w (Readout q) d f =
-    readout_common (with_counters m.state (shared_clears p w m.state.counters)) _ (busy_same p w m.state.common) q
+    readout_common (Shared p) (with_counters m.state (shared_clears p w m.state.counters)) _ (busy_same p w m.state.common)
+    (queue_same p w m.state.common) q f
     ∙ readout_counters (Shared p) m.state _ (clears_apart p w m.state.counters s.counters) (outputs_clears p w m.state) q f
 other_register m s (Shared p) l w (Shared q) d f = shared_other p q w m.state.common d
 other_register m s (Shared p) l w (Input n) d f = input_kept p w m.state.counters s.counters n

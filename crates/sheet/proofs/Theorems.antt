@@ -1,13 +1,13 @@
 -- The theorems about lists of calls, with their full statements. Each is proved by the file that it cites.
-use Prim.Native.Nat.{ℕ, ◌+◌, ◌*◌, ◌/◌, ◌%◌, ◌^◌, ◌≤◌, ◌<◌}
+use Prim.Native.Nat.{ℕ, ◌+◌, ◌-◌, ◌*◌, ◌/◌, ◌%◌, ◌^◌, ◌≤◌, ◌<◌}
 use native.Mathlib.Nat.{zero-add}
 use mathlib.Core.Bool.{Bool, true, false}
-use mathlib.Core.List.{List, ◌++◌}
+use mathlib.Core.List.{List, [], ◌∷◌, ◌++◌}
 use mathlib.Core.Logic.{◌↔◌}
 use mathlib.Core.Path.{◌≡◌, sym, ap, ◌∙◌}
 use lib.ListN.{length}
-use Rattle.std.proofs.Common.{Ok, Some, None}
-use Rattle.words.specs.Word.{bit}
+use Rattle.std.proofs.Common.{Ok, Some, None, is_some}
+use Rattle.words.specs.Word.{bit, bit_of}
 use Rattle.loader.specs.declared.loader.Request.{Request}
 use Rattle.loader.specs.Memory.{is_whole}
 use Rattle.causes.specs.Causes.{is_done}
@@ -33,6 +33,7 @@ use Rattle.sheet.specs.Scans.{scan_at}
 use Rattle.sheet.specs.Settled.{SettledCut, repeats, settled, settled_part_of}
 use Rattle.sheet.specs.Sheet.{sheet_after, sheet_shows, sheet_step}
 use Rattle.sheet.specs.Shows.{shows}
+use Rattle.sheet.specs.Waiting.{requests_made, requests_taken}
 use Rattle.sheet.proofs.Addresses as placing
 use Rattle.sheet.proofs.Finishes as finishing
 use Rattle.sheet.proofs.Isolation as isolating
@@ -43,6 +44,7 @@ use Rattle.sheet.proofs.Reached as reaching
 use Rattle.sheet.proofs.Scans as scanning
 use Rattle.sheet.proofs.Settled as settling
 use Rattle.sheet.proofs.SettledLists as comparing
+use Rattle.sheet.proofs.Waiting as tallying
 
 -- Demand 3: after every list of calls, counter c shows in the crate what its one-counter sheet shows, fed with c's own part alone.
 pub isolation : (c : ℕ) → c < 128 → (l : List Call) → shows c (after l) ≡ sheet_shows (sheet_after c (own_part_of c l))
@@ -150,6 +152,19 @@ pub raw_alike : (j : ℕ) → j < 108 → (l m : List Call) → levels_of (j / 2
     read_of (after l) (0x1300 + j) ≡ read_of (after m) (0x1300 + j)
 raw_alike j b l m e =
     raw_reads j b l ∙ ap (λ (levels : List Bool). Ok (low_first j (rises_in false levels % 2 ^ 32))) e ∙ sym (raw_reads j b m)
+
+-- Document 02, request 5: after every list of calls 0x0905 reads the requests that the list has made less those that the loader has taken, both
+-- counted over the list by themselves (`Waiting.antt`): so the one at work is not counted.
+pub waiting_reads : (l : List Call) → read_of (after l) 0x0905 ≡ Ok (requests_made l - requests_taken l)
+waiting_reads = tallying.waiting_reads
+
+-- None is taken that was not made, so it is a true difference, and at most 16 wait: "0 to 16".
+pub waiting_within : (l : List Call) → (requests_taken l ≤ requests_made l) × (requests_made l - requests_taken l ≤ 16)
+waiting_within = tallying.waiting_within
+
+-- A call adds one to those made exactly where `request_made` says that it makes a request; of those `finishes` speaks.
+pub made_is : (l : List Call) (x : Call) → requests_made (l ++ (x ∷ [])) ≡ requests_made l + bit_of (is_some (request_made (after l) x))
+made_is = tallying.made_is
 
 -- Document 02, CR 3, for every crate and memory, so after every list
 module _ (m : Machine) (o : ℕ) (h : o < 6) where

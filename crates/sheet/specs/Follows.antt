@@ -1,21 +1,26 @@
--- What a read of one register may give otherwise once another was written: document 01's side effects of writes, and no more.
+-- What a read of one register may give otherwise once another was written: document 01's side effects of writes, and no more. A request that a
+-- write makes is read as one that waits (document 02, request 5).
 use Rattle.std.specs.Prelude.{ℕ, Bool, true, false, eqb}
 use Rattle.std.specs.Option.{option_map_or}
 use Rattle.device.specs.Map.{decode_of}
 use Rattle.device.specs.declared.map.ReadoutWord.{ReadoutWord}
-use Rattle.device.specs.declared.map.ReadoutWord.TheVariants.{Negative, Positive, WatchdogErrors, Outputs, Count, Raw}
+use Rattle.device.specs.declared.map.ReadoutWord.TheVariants.{Negative, Positive, WatchdogErrors, Outputs, QueueLength, Count, Raw}
 use Rattle.device.specs.declared.map.Register.{Register}
 use Rattle.device.specs.declared.map.Register.TheVariants.{Readout, Setting, Shared, Watchdogs}
 use Rattle.device.specs.declared.map.SettingWord.{SettingWord}
 use Rattle.device.specs.declared.map.SettingWord.TheVariants.{Selection}
 use Rattle.device.specs.declared.map.SharedWord.{SharedWord}
-use Rattle.device.specs.declared.map.SharedWord.TheVariants.{Control}
+use Rattle.device.specs.declared.map.SharedWord.TheVariants.{Control, Reload}
 
 -- ---- what is followed: sets of registers
 
 abbrev pub is_control : SharedWord → Bool
 is_control Control = true
 is_control q = false
+
+abbrev pub is_reload : SharedWord → Bool
+is_reload Reload = true
+is_reload q = false
 
 abbrev pub is_selection : SettingWord → Bool
 is_selection (Selection o k) = true
@@ -25,6 +30,11 @@ is_selection q = false
 abbrev pub control : Register → Bool
 control (Shared q) = is_control q
 control r = false
+
+-- 0x0A02
+abbrev pub reload : Register → Bool
+reload (Shared q) = is_reload q
+reload r = false
 
 -- 0x0810 + j
 abbrev pub reset_word : ℕ → Register → Bool
@@ -53,6 +63,8 @@ followed_by (Positive k) = control
 followed_by (WatchdogErrors k) = reset_word k
 -- "Interlock o is 1 exactly when no selected overflow, gate error, watchdog error or low forwarded gate input exists"
 followed_by Outputs = control_resets_selections
+-- "A write to 0x0A02 that sets TRIGGER where it was clear makes a request", which waits
+followed_by QueueLength = reload
 -- raw counts: "Gates, selections and RESET have no effect"
 followed_by (Raw k) = nothing
 -- no other one follows a write

@@ -8,3 +8,4 @@ pub mod Scans
 pub mod Settled
 pub mod Sheet
 pub mod Shows
+pub mod Waiting

@@ -6,11 +6,13 @@ use lib.ListN.{length, get_or}
 use Rattle.lists.specs.Checks.{row, right}
 use Rattle.lists.proofs.Rows.{row_right}
 use Rattle.sheet.specs.Requests.{stand_after}
+use Rattle.sheet.specs.Waiting.{tallied, tag_tally, tick_tally, write_tally}
 use Rattle.worked.proofs.Computing.{computing}
-use Rattle.worked.proofs.Worked.{worked, gate_rows, counter_rows, register_rows, refusal_rows, loader_rows, bound_rows, output_rows, trace_rows, raw_rows, scan_rows}
+use Rattle.worked.proofs.Worked.{worked, gate_rows, counter_rows, register_rows, refusal_rows, loader_rows, bound_rows, output_rows, trace_rows, raw_rows, length_rows, scan_rows}
 
 worked_right : right worked ≡ true
-unfolding computing worked gate_rows counter_rows register_rows refusal_rows loader_rows bound_rows output_rows trace_rows raw_rows stand_after
+unfolding computing worked gate_rows counter_rows register_rows refusal_rows loader_rows bound_rows output_rows trace_rows raw_rows length_rows
+    stand_after tallied write_tally tag_tally tick_tally
 worked_right = refl
 
 -- the worked cases

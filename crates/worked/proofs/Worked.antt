@@ -1,5 +1,5 @@
 -- Worked cases of the definitions, section by section of document 01: gates, counters, registers, refusals, loader, watchdogs,
--- interlocks, traces; then the raw counts and the scans of document 02, requests 1 and 3.
+-- interlocks, traces; then the raw counts, the scans and the queue's length of document 02, requests 1, 3 and 5.
 use Prim.Native.Nat.{ℕ, zero, suc, ◌+◌, ◌*◌, ◌/◌, ◌%◌, ◌^◌}
 use mathlib.Core.Bool.{Bool, true, false}
 use mathlib.Core.List.{List, [], ◌∷◌, ◌++◌}
@@ -26,6 +26,7 @@ use Rattle.interlocks.specs.Scan.{scan_of}
 use Rattle.writing.specs.Write.{write_answer}
 use Rattle.sheet.specs.Requests.{Stand, finished, stand_after, waits, works}
 use Rattle.sheet.specs.Scans.{scan_at}
+use Rattle.sheet.specs.Waiting.{requests_made, requests_taken}
 use Rattle.trace.specs.declared.Report.{Report}
 use Rattle.records.specs.declared.Stop.{Stop}
 use Rattle.records.specs.declared.Stop.TheVariants.{End, Spent, Refused}
@@ -177,8 +178,8 @@ mapped (suc n) sum = mapped n (sum + option_map_or counts (decode_of n) 0)
 
 unfoldable pub register_rows : List Row
 register_rows =
-    -- of all 65,536 addresses 17,620 are in the map, 914 of them read-only
-    row 914_17620 (mapped 65536 0)
+    -- of all 65,536 addresses 17,621 are in the map, 915 of them read-only
+    row 915_17621 (mapped 65536 0)
     -- used bits
     ∷ row 0x0FFF (stored_word 0x0630 0xFFFF)
     ∷ row 0x0FFF (stored_word 0x0635 0xFFFF)
@@ -216,7 +217,7 @@ register_rows =
     ∷ row 4 (unmapped (0x071D ∷ 0x07FF ∷ []))
     ∷ row 2 (unmapped (0x0803 ∷ []))
     ∷ row 4 (unmapped (0x0814 ∷ 0x08FF ∷ []))
-    ∷ row 4 (unmapped (0x0905 ∷ 0x09FF ∷ []))
+    ∷ row 4 (unmapped (0x0906 ∷ 0x09FF ∷ []))
     ∷ row 4 (unmapped (0x0A05 ∷ 0x0FFF ∷ []))
     ∷ row 4 (unmapped (0x1080 ∷ 0x10FF ∷ []))
     ∷ row 20
@@ -227,8 +228,9 @@ register_rows =
     ∷ row 4 (unmapped (0x1A00 ∷ 0x7FFF ∷ []))
     ∷ row 4 (unmapped (0xC000 ∷ 0xFFFF ∷ []))
     -- and what stands beside them
-    ∷ row 28
-    (read_only (0x0638 ∷ 0x063D ∷ 0x0700 ∷ 0x0714 ∷ 0x0717 ∷ 0x071C ∷ 0x0900 ∷ 0x0904 ∷ 0x1200 ∷ 0x12FF ∷ 0x1300 ∷ 0x136B ∷ 0x1800 ∷ 0x19FF ∷ []))
+    ∷ row 30
+    (read_only (0x0638 ∷ 0x063D ∷ 0x0700 ∷ 0x0714 ∷ 0x0717 ∷ 0x071C ∷ 0x0900 ∷ 0x0904 ∷ 0x0905 ∷ 0x1200 ∷ 0x12FF ∷ 0x1300 ∷ 0x136B ∷ 0x1800 ∷ 0x19FF
+    ∷ []))
     ∷ row 40
     (writable (0x0630 ∷ 0x0635 ∷ 0x0800 ∷ 0x0802 ∷ 0x0804 ∷ 0x0813 ∷ 0x0A00 ∷ 0x0A04 ∷ 0x1000 ∷ 0x107F ∷ 0x1100 ∷ 0x1115 ∷ 0x1120 ∷ 0x1135
     ∷ 0x11A0 ∷ 0x11B5 ∷ 0x1600 ∷ 0x161F ∷ 0x8000 ∷ 0xBFFF ∷ []))
@@ -255,11 +257,12 @@ refusal_rows =
     ∷ row 1 (number_of (answer (machine power_up short) (tick (2 ^ 54) 0)))
     ∷ row 1 (number_of (answer (machine power_up short) (download 32 [])))
     -- 2, and 3
-    ∷ row 2 (read_answers [] 0x0905)
+    ∷ row 2 (read_answers [] 0x0906)
     -- "number, word 0"
-    ∷ row 0 (reads [] 0x0905)
+    ∷ row 0 (reads [] 0x0906)
     ∷ row 0 (word_shown (read_of (machine power_up short) 0x0800))
-    ∷ row 2 (answers [] (write 0x0905 1))
+    ∷ row 2 (answers [] (write 0x0906 1))
+    ∷ row 3 (answers [] (write 0x0905 1))
     ∷ row 3 (answers [] (write 0x1800 1))
     -- 4 before 5; 0x0A02 stays as it was, and with no rise of TRIGGER nothing is refused
     ∷ row 4 (answers (asked_often 16) (write 0x0A02 (triggered 32 0)))
@@ -418,7 +421,7 @@ trace_rows =
     -- refused 2, 3, 4 and 6 counted once each, a tag passed over not
     ∷ row 20_042_000_005_004
     (reports
-    (write_record 0x0905 0 ++ write_record 0x0700 0 ++ write_record 0x0A02 0x1020 ++ tick_record 300 0 0x1000 ++ (3 ∷ 0 ∷ 4 ∷ 0 ∷ 0 ∷ 0x10 ∷ 0 ∷ []))
+    (write_record 0x0906 0 ++ write_record 0x0700 0 ++ write_record 0x0A02 0x1020 ++ tick_record 300 0 0x1000 ++ (3 ∷ 0 ∷ 4 ∷ 0 ∷ 0 ∷ 0x10 ∷ 0 ∷ []))
     5)
     -- refused 5 and a refused tag count too, and the run goes on
     ∷ row 20_035_002_004_001
@@ -459,6 +462,54 @@ raw_rows =
     ∷ row 0 (reads (tick 1 0x1000 ∷ []) 0x1300)
     ∷ row 1 (reads (tick 1 0 ∷ tick 0 0x1000 ∷ tick 1 0 ∷ []) 0x1300)
     ∷ row 0 (reads (counting 63 ++ often 5 (tick 0 1)) 0x136A)
+    ∷ []
+
+-- ---- the queue's length
+
+unfoldable pub length_rows : List Row
+length_rows =
+    -- none waits at power-up; a request by a write or by a tag waits; 16 do, and no 17th
+    row 0 (reads [] 0x0905)
+    ∷ row 1 (reads (write 0x0A02 (triggered 0 0) ∷ []) 0x0905)
+    ∷ row 2 (reads (asked 31 15 ++ asked 0 0) 0x0905)
+    ∷ row 1 (reads (keyed ++ (tag 0xBEEF_1000 ∷ [])) 0x0905)
+    ∷ row 15 (reads (asked_often 15) 0x0905)
+    ∷ row 16 (reads (asked_often 16) 0x0905)
+    ∷ row 16 (reads (asked_often 17) 0x0905)
+    ∷ row 16 (reads (asked_often 16 ++ keyed ++ (tag 0xBEEF_1000 ∷ [])) 0x0905)
+    -- what makes no request adds none: TRIGGER that stays, dataset 32, a wrong key, events off, another command
+    ∷ row 1 (reads (write 0x0A02 (triggered 0 0) ∷ write 0x0A02 (triggered 1 0) ∷ []) 0x0905)
+    ∷ row 0 (reads (write 0x0A02 (triggered 32 0) ∷ []) 0x0905)
+    ∷ row 0 (reads (keyed ++ (tag 0xBEEE_1000 ∷ tag 0xBEEF_2000 ∷ tag 0xBEEF_1020 ∷ [])) 0x0905)
+    ∷ row 0 (reads (tag 0x1000 ∷ []) 0x0905)
+    -- a refused write leaves TRIGGER clear, so that the next one makes a request
+    ∷ row 1 (reads (write 0x0A02 (triggered 32 0) ∷ write 0x0A02 (triggered 0 0) ∷ []) 0x0905)
+    ∷ row 16 (reads (asked_often 16 ++ (write 0x0A02 (triggered 0 0) ∷ tick 0 0 ∷ write 0x0A02 (triggered 0 0) ∷ [])) 0x0905)
+    -- the request at work waits no more, for all of its 128 ticks; a refused tick takes none
+    ∷ row 16 (reads (asked_often 16 ++ (tick 0 0x1000 ∷ [])) 0x0905)
+    ∷ row 15 (reads (asked_often 16 ++ often 1 (tick 0 0)) 0x0905)
+    ∷ row 16 (reads (asked_often 16 ++ often 1 (tick 0 0) ++ asked 0 0) 0x0905)
+    ∷ row 15 (reads (asked_often 16 ++ often 129 (tick 0 0)) 0x0905)
+    ∷ row 14 (reads (asked_often 16 ++ often 130 (tick 0 0)) 0x0905)
+    ∷ row 0 (reads (asked_often 1 ++ often 1 (tick 0 0)) 0x0905)
+    -- nothing else takes one away: RESET, command 0x4, TRIGGER cleared, a write to it, which is refused 3
+    ∷ row 1 (reads (asked 0 0 ++ keyed ++ (write 0x0801 1 ∷ tag 0xBEEF_4000 ∷ write 0x0A02 0 ∷ write 0x0905 0 ∷ [])) 0x0905)
+    ∷ row 3 (answers (asked 0 0) (write 0x0905 0))
+    -- the registers beside it read as they did while requests wait
+    ∷ row 0 (reads (asked_often 16) 0x0903)
+    ∷ row 0 (reads (asked_often 16) 0x0904)
+    ∷ row 3 (reads (asked_often 16 ++ often 3 (tick 0 0)) 0x0903)
+    ∷ row 1 (reads (asked_often 16 ++ often 3 (tick 0 0)) 0x0904)
+    -- by the calls alone: made, and taken by the loader
+    ∷ row 16 (requests_made (asked_often 17))
+    ∷ row 1 (requests_made (write 0x0A02 (triggered 32 0) ∷ write 0x0A02 (triggered 0 0) ∷ []))
+    ∷ row 1 (requests_made (write 0x0A02 (triggered 0 0) ∷ write 0x0A02 (triggered 1 0) ∷ []))
+    ∷ row 17 (requests_made (asked_often 16 ++ often 1 (tick 0 0) ++ asked 0 0))
+    ∷ row 1 (requests_taken (asked_often 16 ++ often 129 (tick 0 0)))
+    ∷ row 2 (requests_taken (asked_often 16 ++ often 130 (tick 0 0)))
+    ∷ row 1 (requests_taken (asked_often 1 ++ often 259 (tick 0 0)))
+    ∷ row 0 (requests_taken (asked_often 1 ++ (tick 0 0x1000 ∷ [])))
+    ∷ row 3 (requests_made (keyed ++ (tag 0xBEEF_1000 ∷ tag 0xBEEE_1000 ∷ tag 0xBEEF_1120 ∷ []) ++ asked 32 0 ++ asked 1 0 ++ asked 2 0))
     ∷ []
 
 -- ---- scans
@@ -524,4 +575,4 @@ scan_rows =
     ∷ []
 
 unfoldable pub worked : List Row
-worked = gate_rows ++ counter_rows ++ register_rows ++ refusal_rows ++ loader_rows ++ bound_rows ++ output_rows ++ trace_rows ++ raw_rows
+worked = gate_rows ++ counter_rows ++ register_rows ++ refusal_rows ++ loader_rows ++ bound_rows ++ output_rows ++ trace_rows ++ raw_rows ++ length_rows
