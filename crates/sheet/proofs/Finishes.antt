@@ -75,7 +75,7 @@ stands_tick cm r finished n past = loaders cm.loader (λ b. rw b past) (λ l b. 
 
 -- ---- the measure falls by one with an accepted tick
 
-work_busy : (l : Reloading) (q : Queue) → l.next < 128 → ticks_at_work (loader_step (Some l) q) + 1 ≡ 128 - l.next
+pub work_busy : (l : Reloading) (q : Queue) → l.next < 128 → ticks_at_work (loader_step (Some l) q) + 1 ≡ 128 - l.next
 unfolding loader_step
 work_busy l q n = grind (arith, nat_tests)
 

@@ -29,29 +29,27 @@ use Rattle.device.specs.Map.{decode_of, event_map, kept}
 use Rattle.device.specs.State.{Machine, common_of, power_up}
 use Rattle.reading.specs.Read.{read_of, readout_word, word_in}
 use Rattle.registers.specs.Calls.{Call, tick, write, tag, download, after, called, download_answer, from, machine0, step}
+use Rattle.registers.proofs.Keeping.{step_keeps}
 use Rattle.registers.proofs.Whole.{WholeMemory, full, read_whole, step_called}
 use Rattle.tagging.specs.Tag.{command_of, commanded, events_on, right_key, tag_of, tag_request}
 use Rattle.ticking.specs.Tick.{common_tick, tick_of}
 use Rattle.writing.specs.Write.{control_write, dataset_in, enable_write, key_write, reload_answer, reload_write, request_answer, requested, shared_write, trigger, triggers, with_reload, write_at}
-use Rattle.sheet.specs.Requests.{request_made}
+use Rattle.sheet.specs.Reachable.{CommonInRange, LoaderInRange}
+use Rattle.sheet.specs.Requests.{request_made, ticks_at_work}
 use Rattle.sheet.specs.Waiting.{Tally, enters, one_more, reload_tally, requests_made, requests_taken, tag_tally, tallied, tally0, tally_step, tick_tally, with_words, waiting, write_tally}
 use Rattle.sheet.proofs.Addresses.{decode_reload, placed_as}
-use Rattle.sheet.proofs.Reached.{range_after}
+use Rattle.sheet.proofs.Finishes.{work_busy}
+use Rattle.sheet.proofs.Reached.{range_after, range_keeps}
 use Rattle.sheet.proofs.Sizes.{full_after, sized_start}
 
 -- ---- what the tally tells of the crate
-
--- the ticks for which a loader is still at work
-abbrev AtWork : Option Reloading → ℕ → Type 0
-AtWork None n = n ≡ 0
-AtWork (Some l) n = (l.next + n ≡ 128) × (0 < n)
 
 record Told (cm : Common) (t : Tally) : Type 0 where
   key : cm.key ≡ t.key
   enabled : bit cm.enable 0 ≡ t.enabled
   triggered : bit cm.reload 12 ≡ t.triggered
   counts : length cm.queue + t.taken ≡ t.made
-  work : AtWork cm.loader t.busy
+  work : ticks_at_work cm.loader ≡ t.busy
 
 -- the same test on both sides
 told_pick : (b c : Bool) → b ≡ c → (x y : Common) (u v : Tally) → Told x u → Told y v → Told (pick b x y) (pick c u v)
@@ -96,29 +94,28 @@ told_tag cm t h g =
 
 -- ---- ticks
 
-worked : (l : Reloading) (n : ℕ) → l.next + n ≡ 128 → 0 < n → AtWork (loader_step (Some l) []) (n - 1)
-unfolding loader_step
-worked l n e p = grind (arith, nat_tests)
+work_less : (l : Reloading) (q : Queue) (n : ℕ) → l.next < 128 → 128 - l.next ≡ n → ticks_at_work (loader_step (Some l) q) ≡ n - 1
+work_less l q n h e = omega (arith, work_busy l q h)
 
 -- "an idle loader takes the oldest", where one waits; "a busy one handles the next counter", and is idle after the last
 told_tick : (l : Option Reloading) (control key enable reload : ℕ) (q : Queue) (phases : List ℕ) (t : Tally) →
-    Told (common_of control key enable reload q l phases) t → Told (common_tick (common_of control key enable reload q l phases)) (tick_tally t)
+    LoaderInRange l → Told (common_of control key enable reload q l phases) t → Told (common_tick (common_of control key enable reload q l phases)) (tick_tally t)
 unfolding common_tick loader_step queue_step tick_tally dropped
-told_tick None control key enable reload q phases t h =
+told_tick None control key enable reload q phases t n h =
     let w : waiting t ≡ length q = omega (arith, h.counts) in
     cases (eqb (length q) 0)
     (λ e.
     let f : eqb (waiting t) 0 ≡ true = rw w e in
-    rw (e, f, h.work) assumption)
+    rw (e, f, ← h.work) assumption)
     (λ e.
     let f : eqb (waiting t) 0 ≡ false = rw w e in
-    let n : length (drop 1 q) ≡ length q - 1 = length-drop 1 q in
+    let less : length (drop 1 q) ≡ length q - 1 = length-drop 1 q in
     let some : length q ≡ 0 → ⊥ = eqb-false (length q) 0 e in
-    rw (e, f, h.work)
-    (record { key = h.key; enabled = h.enabled; triggered = h.triggered; counts = omega (arith, h.counts, n, some); work = (refl, omega arith) }))
-told_tick (Some l) control key enable reload q phases t h =
-    let some : eqb t.busy 0 ≡ false = ne_eqb t.busy 0 (λ e. omega (arith, h.work.1)) in
-    rw some (assumption (worked l t.busy h.work.0 h.work.1))
+    rw (e, f, ← h.work)
+    (record { key = h.key; enabled = h.enabled; triggered = h.triggered; counts = omega (arith, h.counts, less, some); work = refl }))
+told_tick (Some l) control key enable reload q phases t n h =
+    let some : eqb t.busy 0 ≡ false = ne_eqb t.busy 0 (λ e. omega (arith, h.work, n.next)) in
+    rw some (assumption (work_less l q t.busy n.next h.work))
 
 -- ---- writes
 
@@ -170,30 +167,31 @@ tag_common s g = grind arith
 
 -- ---- along a list
 
-told_step : (m : Machine) → WholeMemory m.memory → (t : Tally) → Told m.state.common t → (x : Call) →
+told_step : (m : Machine) → WholeMemory m.memory → CommonInRange m.state.common → (t : Tally) → Told m.state.common t → (x : Call) →
     Told (step m x).state.common (tally_step t x)
 unfolding called tick_of
-told_step m f t h (tick inputs gates) =
+told_step m f n t h (tick inputs gates) =
     rw (step_called m f (tick inputs gates))
-    (cases (bad_levels inputs gates) (λ e. rw e h) (λ e. rw e (told_tick _ _ _ _ _ _ _ t h)))
-told_step m f t h (write a w) = rw (step_called m f (write a w)) (told_write m t h a w)
-told_step m f t h (tag g) = rw (step_called m f (tag g), tag_common m.state g) (told_tag m.state.common t h g)
-told_step m f t h (download d words) =
+    (cases (bad_levels inputs gates) (λ e. rw e h) (λ e. rw e (told_tick _ _ _ _ _ _ _ t n.loader h)))
+told_step m f n t h (write a w) = rw (step_called m f (write a w)) (told_write m t h a w)
+told_step m f n t h (tag g) = rw (step_called m f (tag g), tag_common m.state g) (told_tag m.state.common t h g)
+told_step m f n t h (download d words) =
     rw (step_called m f (download d words))
     (both (λ (n : Machine). Told n.state.common t) (is_done (download_answer d (length words))) h h)
 
-told_from : (l : List Call) (m : Machine) → WholeMemory m.memory → (t : Tally) → Told m.state.common t → Told (from m l).state.common (tallied t l)
+told_from : (l : List Call) (m : Machine) → WholeMemory m.memory → CommonInRange m.state.common → (t : Tally) → Told m.state.common t → Told (from m l).state.common (tallied t l)
 unfolding from tallied
-told_from [] m f t h = h
-told_from (x ∷ l) m f t h = told_from l (step m x) (full m f x) (tally_step t x) (told_step m f t h x)
+told_from [] m f n t h = h
+told_from (x ∷ l) m f n t h =
+    told_from l (step m x) (full m f x) (step_keeps range_keeps m n x tt) (tally_step t x) (told_step m f n t h x)
 
 told_start : Told machine0.state.common tally0
 unfolding power_up bit
 told_start = record { key = refl; enabled = refl; triggered = refl; counts = refl; work = refl }
 
 told_after : (l : List Call) → Told (after l).state.common (tallied tally0 l)
-unfolding after
-told_after l = told_from l machine0 sized_start.memory tally0 told_start
+unfolding after from
+told_after l = told_from l machine0 sized_start.memory (range_after []) tally0 told_start
 
 -- ---- as it is read
 
