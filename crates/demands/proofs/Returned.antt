@@ -69,13 +69,24 @@ module _ (l : List Act) (n : Machine) (h : Rehearsed l n) where
   -- of the calls that the functions made, by themselves or as records of runs: a request that one of them makes stands in the crate where
   -- `stand_after` says, and that is `finished` in time
   module _ (l₁ : List Call) (x : Call) (l₂ : List Call) (cut : list_of l ≡ l₁ ++ (x ∷ l₂)) (q : Request) (made : request_made (after l₁) x ≡ Some q) where
-    pub code_stands : Stands n.state.common q (stand_after (step (after l₁) x) l₂ (waits (length (after l₁).state.common.queue)))
+    pub code_stands : Stands n.state.common q (stand_after (step (after l₁) x) l₂ (waits (after l₁).state.common.queue.waiting))
     unfolding after from
     code_stands = rw (rehearsed l n h, cut, from_append machine0 l₁ (x ∷ l₂)) (stands l₁ x q made l₂)
 
-    pub code_finishes : 128 + 129 * (length (after l₁).state.common.queue + 1) ≤ accepted_ticks l₂ →
-        stand_after (step (after l₁) x) l₂ (waits (length (after l₁).state.common.queue)) ≡ finished
+    pub code_finishes : 128 + 129 * ((after l₁).state.common.queue.waiting + 1) ≤ accepted_ticks l₂ →
+        stand_after (step (after l₁) x) l₂ (waits (after l₁).state.common.queue.waiting) ≡ finished
     code_finishes = finishes l₁ x q made l₂
+
+  -- of a call behind those of the list, and whatever is done after it: of the crates and memories themselves
+  finishes_behind : (x : Call) (q : Request) → request_made n x ≡ Some q → (more : List Call) → 128 + 129 * (n.state.common.queue.waiting + 1) ≤ accepted_ticks more →
+      stand_after (step n x) more (waits n.state.common.queue.waiting) ≡ finished
+  finishes_behind x q = rw (rehearsed l n h) (finishes (list_of l) x q)
+
+  pub code_finishes_behind : (x : Call) (q : Request) → request_made n x ≡ Some q → (a : Answer) (k : Machine) → Returned n x a k →
+      (more : List Act) → 128 + 129 * (n.state.common.queue.waiting + 1) ≤ accepted_ticks (list_from k more) →
+      stand_after k (list_from k more) (waits n.state.common.queue.waiting) ≡ finished
+  code_finishes_behind x q made a k back more =
+      subst (λ (m : Machine). 128 + 129 * (n.state.common.queue.waiting + 1) ≤ accepted_ticks (list_from k more) → stand_after m (list_from k more) (waits n.state.common.queue.waiting) ≡ finished) (sym back.1) (finishes_behind x q made (list_from k more))
 
   -- what a read after the list returns
   pub code_read : (a : ℕ) (q : Result ℕ Cause) → Looked n a q → q ≡ read_of (after (list_of l)) a

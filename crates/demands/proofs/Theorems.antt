@@ -43,7 +43,7 @@ use Rattle.trace.specs.Run.{Run, begun, once_of, progress_of, run, run_of}
 use Rattle.trace.specs.Sound.{Sound}
 use Rattle.demands.specs.Conditions.{Goes, bytes_in, cause_of, fate_of, first, gone_by, left_by, power_up_conditions, shown_by, stopped}
 use Rattle.demands.specs.Returned.{Acted, Looked, Numbered, Powered, Ran, Rehearsed, Returned, Saw, Scanned}
-use Rattle.demands.specs.Seen.{Act, reading, tracing, Seen, told, reported, callings, list_of, seen_of}
+use Rattle.demands.specs.Seen.{Act, reading, tracing, Seen, told, reported, callings, list_from, list_of, seen_of}
 use Rattle.demands.proofs.Acts as acting
 use Rattle.demands.proofs.Ends as ending
 use Rattle.demands.proofs.Fates as passing
@@ -194,12 +194,12 @@ code_isolation_within = returning.code_isolation_within
 module _ (l : List Act) (n : Machine) (h : Rehearsed l n) (l₁ : List Call) (x : Call) (l₂ : List Call) (cut : list_of l ≡ l₁ ++ (x ∷ l₂))
     (q : Request) (made : request_made (after l₁) x ≡ Some q) where
   -- .. stands in the crate that the functions gave where `stand_after` says,
-  pub code_stands : Stands n.state.common q (stand_after (step (after l₁) x) l₂ (waits (length (after l₁).state.common.queue)))
+  pub code_stands : Stands n.state.common q (stand_after (step (after l₁) x) l₂ (waits (after l₁).state.common.queue.waiting))
   code_stands = returning.code_stands l n h l₁ x l₂ cut q made
 
   -- and that is `finished` once 128 + 129 × (k + 1) ticks are accepted behind it, k waiting ahead.
-  pub code_finishes : 128 + 129 * (length (after l₁).state.common.queue + 1) ≤ accepted_ticks l₂ →
-      stand_after (step (after l₁) x) l₂ (waits (length (after l₁).state.common.queue)) ≡ finished
+  pub code_finishes : 128 + 129 * ((after l₁).state.common.queue.waiting + 1) ≤ accepted_ticks l₂ →
+      stand_after (step (after l₁) x) l₂ (waits (after l₁).state.common.queue.waiting) ≡ finished
   code_finishes = returning.code_finishes l n h l₁ x l₂ cut q made
 
 -- Document 02, request 1: two rehearsals in whose accepted ticks an input has the same levels read its raw count alike.
@@ -300,3 +300,11 @@ module _ (m : Machine) (t : List ℕ) (budget : ℕ) (s : Crate) (report : Repor
 
   pub code_run_refusals : report.refused ≡ refusals m (calls_in (passed_in t budget m))
   code_run_refusals = returning.code_run_refusals m t budget s report memory ran
+
+-- A request that a call makes behind a rehearsal is finished once 128 + 129 × (k + 1) ticks are accepted behind it, k waiting ahead: said of
+-- the crates and memories that the functions gave.
+pub code_finishes_behind : (l : List Act) (n : Machine) → Rehearsed l n → (x : Call) (q : Request) → request_made n x ≡ Some q →
+    (a : Answer) (k : Machine) → Returned n x a k → (more : List Act) →
+    128 + 129 * (n.state.common.queue.waiting + 1) ≤ accepted_ticks (list_from k more) →
+    stand_after k (list_from k more) (waits n.state.common.queue.waiting) ≡ finished
+code_finishes_behind = returning.code_finishes_behind

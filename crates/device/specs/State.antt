@@ -3,12 +3,13 @@ use Rattle.std.specs.Prelude.{ℕ, List, Option}
 use Rattle.lists.specs.Table.{tabulate}
 use Rattle.counters.specs.declared.counter.Counter.{Counter}
 use Rattle.gates.specs.declared.gate.Gate.{Gate}
+use Rattle.loader.specs.declared.loader.Queue.{Queue}
 use Rattle.loader.specs.declared.loader.Reload.{Reload}
 use Rattle.watchdogs.specs.declared.watchdog.Watchdog.{Watchdog}
 use Rattle.counters.specs.Counter.{counter0, counter_count}
 use Rattle.gates.specs.Gate.{gate0}
 use Rattle.lines.specs.Lines.{gate_count, input_count, signal_count}
-use Rattle.loader.specs.Loader.{Queue, group_words, loader0, queue0}
+use Rattle.loader.specs.Loader.{group_words, loader0, queue0}
 use Rattle.loader.specs.Memory.{memory_words}
 use Rattle.watchdogs.specs.Watchdog.{watchdog0}
 use Rattle.device.specs.Map.{mask_count, output_count, output_words}

@@ -16,7 +16,7 @@ pub const OUTPUT_WORDS: usize = 22;
 
 const MASKS: usize = 6;
 
-#[derive(Clone, Drop)]
+#[derive(Clone, Copy)]
 pub struct Crate {
     pub counters: [Counter; COUNTERS],
     // registers 0x1600 to 0x161F, four bits a counter; as words, since in the counters each read would put one together from four and each
@@ -52,7 +52,7 @@ impl Default for Crate {
 }
 
 // What all counters share, so that every counter's sheet has it whole.
-#[derive(Clone, Default, Drop)]
+#[derive(Clone, Copy, Default)]
 pub struct Common {
     // registers 0x0801, 0x0A00, 0x0A01 and 0x0A02
     pub control: u16,

@@ -11,6 +11,7 @@ use Rattle.bools.proofs.Tests.{cases, pick_elim}
 use Rattle.std.proofs.lemmas.Bool.{and_parts, or_parts, true≢false}
 use Rattle.counters.specs.declared.counter.Counter.{Counter}
 use Rattle.gates.specs.declared.gate.Gate.{Gate}
+use Rattle.loader.specs.declared.loader.Queue.{Queue}
 use Rattle.loader.specs.declared.loader.Reload.{Reload}
 use Rattle.watchdogs.specs.declared.watchdog.Watchdog.{Watchdog}
 use Rattle.counters.specs.Counter.{tick_counters}
@@ -21,7 +22,7 @@ use Rattle.gate_leaps.proofs.Leaps.{Steady, gates_more, gates_none, horizon_le, 
 use Rattle.lines.specs.Leap.{low_phases}
 use Rattle.lines.specs.Lines.{rises_of, step_phases}
 use Rattle.lines.proofs.Leaps.{Low, low_is, low_kept, no_input, phases_more, phases_none, raw_stays, rises_next, rises_none}
-use Rattle.loader.specs.Loader.{Queue, busy, is_empty, load_into, loader_step, queue_step}
+use Rattle.loader.specs.Loader.{busy, is_empty, load_into, loader_step, queue_step}
 use Rattle.watchdogs.specs.Watchdog.{step_watchdogs}
 use Rattle.watchdogs.proofs.Leaps.{watchdogs_more, watchdogs_none}
 use Rattle.device.specs.declared.state.Crate.{Crate}

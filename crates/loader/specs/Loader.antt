@@ -1,8 +1,10 @@
 -- Document 01, "Threshold memory and loader": requests, their queue, the loader.
-use Rattle.std.specs.Prelude.{ℕ, ◌+◌, ◌/◌, ◌%◌, Bool, Option, Some, None, is_some, List, [], ◌∷◌, ◌++◌, drop, eqb, leb, length, ltb, get_or, set}
+use Rattle.std.specs.Prelude.{ℕ, ◌+◌, ◌-◌, ◌/◌, ◌%◌, Bool, Option, Some, None, is_some, List, eqb, leb, ltb, get_or, set}
 use Rattle.bools.specs.Pick.{pick}
 use Rattle.words.specs.Word.{nibble}
+use Rattle.lists.specs.Table.{tabulate}
 use Rattle.counters.specs.declared.counter.Counter.{Counter}
+use Rattle.loader.specs.declared.loader.Queue.{Queue}
 use Rattle.loader.specs.declared.loader.Reload.{Reload}
 use Rattle.loader.specs.declared.loader.Request.{Request}
 use Rattle.counters.specs.Counter.{counter_at}
@@ -19,16 +21,15 @@ request0 = request_for 0 0
 abbrev pub queue_places : ℕ
 queue_places = 16
 
--- those that wait, the oldest first
-abbrev pub Queue : Type 0
-Queue = List Request
+abbrev pub queue_of : List Request → ℕ → Queue
+queue_of places waiting = record { places = places; waiting = waiting }
 
 abbrev pub queue0 : Queue
-queue0 = []
+queue0 = queue_of (tabulate queue_places (λ i. request0)) 0
 
 -- "16 requests wait"
 abbrev pub is_full : Queue → Bool
-is_full q = leb queue_places (length q)
+is_full q = leb queue_places q.waiting
 
 -- "dataset above 31"
 abbrev pub is_beyond : ℕ → Bool
@@ -36,17 +37,20 @@ is_beyond dataset = ltb 31 dataset
 
 -- a request behind those that wait
 unfoldable pub pushed : Queue → Request → Queue
-pushed q r = q ++ (r ∷ [])
+pushed q r = queue_of (set q.places q.waiting r) (q.waiting + 1)
 
--- the oldest request, and the queue without it
+-- the oldest request, and the queue without it: the others one place forward
 unfoldable pub oldest : Queue → Request
-oldest q = get_or q 0 request0
+oldest q = get_or q.places 0 request0
+
+unfoldable pub shifted : List Request → List Request
+shifted places = tabulate queue_places (λ i. get_or places (i + 1) request0)
 
 unfoldable pub dropped : Queue → Queue
-dropped q = drop 1 q
+dropped q = queue_of (shifted q.places) (q.waiting - 1)
 
 abbrev pub is_empty : Queue → Bool
-is_empty q = eqb (length q) 0
+is_empty q = eqb q.waiting 0
 
 -- the request that a busy loader works on, and the counter that it handles in the next tick
 abbrev pub reload_of : Request → ℕ → Reload

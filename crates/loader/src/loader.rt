@@ -1,12 +1,11 @@
 // Requests for a reload, the queue in which they wait, and the loader that works them off.
-ghost use Rattle.std.specs.Prelude.{◌≡◌, ◌<◌, length};
+ghost use Rattle.std.specs.Prelude.{◌≡◌, ◌+◌, ◌<◌, slice_index_or};
 ghost use Rattle.words.specs.Word.{field_of};
-ghost use Rattle.loader.specs.Loader.{is_empty, is_full, pushed, taken, left_of, queue0, request_for, loader_step, queue_step, group_at, load_into};
+ghost use Rattle.loader.specs.Loader.{is_empty, is_full, pushed, taken, left_of, queue0, request0, request_for, shifted, loader_step, queue_step, group_at, load_into};
 
 use crate::memory::{self, CounterNumber, MEMORY_WORDS};
-use arrayvec::ArrayVec;
 use counters::{COUNTERS, Counter};
-use std::marker::Model;
+use std::array;
 use words::Field;
 
 #[derive(Clone, Copy, Default)]
@@ -32,29 +31,26 @@ impl From<u16> for Request {
     }
 }
 
+// The places of the queue, and their number as that of requests that wait.
 const QUEUE_PLACES: usize = 16;
 
-// The requests that wait, the oldest first. Clauses see the list of them.
-#[derive(Clone, Drop)]
+const FULL: u16 = QUEUE_PLACES as u16;
+
+// The first `waiting` places hold requests, the oldest first. A value of any number is a queue, also of one that no list of calls reaches.
+#[derive(Clone, Copy)]
 pub struct Queue {
-    requests: ArrayVec<Request, QUEUE_PLACES>,
-}
-
-impl Model for Queue {
-    ghost use Rattle.std.specs.Prelude.{List};
-    ghost use Rattle.loader.specs.declared.loader.Request.{Request};
-
-    ghost Value = { List Request };
-
-    ghost view = { λ q. q.requests.items };
+    pub places: [Request; QUEUE_PLACES],
+    pub waiting: u16,
 }
 
 impl Default for Queue {
     ghost is_default = { λ q. q ≡ queue0 };
 
+    #[tactic(auto, unfolding(lists::specs::Table::tabulate, lists::specs::Table::table_from))]
     fn default() -> Queue {
         Queue {
-            requests: ArrayVec::new(),
+            places: [Request::default(); QUEUE_PLACES],
+            waiting: 0,
         }
     }
 }
@@ -66,36 +62,57 @@ pub struct Reload {
     pub next: u16,
 }
 
+// The request behind place i, and an empty one behind the last.
+fn behind(places: &[Request; QUEUE_PLACES], i: usize) -> Request
+    requires { i < 16 }
+    ensures { result ≡ slice_index_or places.now (i + 1) request0 }
+{
+    if i < QUEUE_PLACES - 1 {
+        places[i + 1]
+    } else {
+        Request::default()
+    }
+}
+
+// Every request one place forward; the last place is empty.
+fn shift(places: &[Request; QUEUE_PLACES]) -> [Request; QUEUE_PLACES]
+    ensures { result ≡ shifted places.now }
+{
+    array::from_fn(|i| behind(places, i))
+}
+
 impl Queue {
     // Whether no request waits.
     pub fn is_empty(&self) -> bool
         ensures { result ≡ is_empty self.now }
     {
-        self.requests.is_empty()
+        self.waiting == 0
     }
 
-    // Whether 16 requests wait; more never do.
+    // Whether 16 requests wait; no list of calls makes more wait.
     #[tactic(auto, using(bools::proofs::Tests::tests))]
     pub fn is_full(&self) -> bool
         ensures { result ≡ is_full self.now }
     {
-        self.requests.is_full()
+        FULL <= self.waiting
     }
 
     // How many wait.
     pub fn waiting(&self) -> u16
-        ensures { result ≡ length self.now }
+        ensures { result ≡ self.now.waiting }
     {
-        self.requests.len() as u16
+        let Queue { waiting, .. } = *self;
+        waiting
     }
 
     // A request behind those that wait.
     #[tactic(auto, unfolding(crate::specs::Loader::pushed))]
     pub fn push(&mut self, request: Request)
-        requires { length self.old < 16 }
+        requires { self.old.waiting < 16 }
         ensures { self.new ≡ pushed self.old request }
     {
-        self.requests.push(request);
+        self.places[usize::from(self.waiting)] = request;
+        self.waiting += 1;
     }
 
     // The oldest request leaves the queue, where one waits.
@@ -103,7 +120,13 @@ impl Queue {
     pub fn take(&mut self) -> Option<Request>
         ensures { (result ≡ taken self.old) × (self.new ≡ left_of self.old) }
     {
-        self.requests.pop_at(0)
+        if self.is_empty() {
+            return None;
+        }
+        let oldest = self.places[0];
+        self.places = shift(&self.places);
+        self.waiting -= 1;
+        Some(oldest)
     }
 }
 

@@ -2,7 +2,7 @@
 ghost use Rattle.std.specs.Prelude.{◌≡◌, ◌+◌, ◌*◌, ◌<◌, MatchOption, true, false, length};
 ghost use Rattle.lists.specs.Table.{tabulate};
 ghost use Rattle.loader.specs.Loader.{is_beyond};
-ghost use Rattle.loader.specs.Memory.{memory_words, place_of, loaded, replaced};
+ghost use Rattle.loader.specs.Memory.{place_of, loaded, replaced};
 
 use counters::Counter;
 use std::ops::Range;
@@ -79,9 +79,9 @@ pub fn download(mem: &mut [u16; MEMORY_WORDS], dataset: Dataset, words: &[u16; D
     mem[dataset.part()].copy_from_slice(words);
 }
 
-// Every word 0.
-pub fn clear_memory(mem: &mut [u16; MEMORY_WORDS])
-    ensures { mem.new ≡ tabulate memory_words (λ a. 0) }
+// Every word 0, however many there are.
+pub fn clear_memory(mem: &mut [u16])
+    ensures { mem.new ≡ tabulate (length mem.old) (λ a. 0) }
 {
     mem.fill(0);
 }

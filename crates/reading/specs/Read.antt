@@ -1,5 +1,5 @@
 -- Document 01, "Writes and event tags", and the Manual's register tables: the word that a read gives.
-use Rattle.std.specs.Prelude.{ℕ, ◌+◌, ◌*◌, ◌/◌, ◌%◌, eqb, ltb, ℤ, List, get_or, length, Result, Ok, Err}
+use Rattle.std.specs.Prelude.{ℕ, ◌+◌, ◌*◌, ◌/◌, ◌%◌, eqb, ltb, ℤ, List, get_or, Result, Ok, Err}
 use Rattle.std.specs.Option.{option_map_or}
 use Rattle.bools.specs.Pick.{pick}
 use Rattle.numbers.specs.Signed.{word_of}
@@ -67,7 +67,7 @@ readout_word s Code = s.status.events.code
 readout_word s LoaderState = pick (busy s.common.loader) 3 0
 readout_word s LoaderCounter = s.status.events.handled
 -- "the number of waiting requests, 0 to 16": the one at work waits no more
-readout_word s QueueLength = length s.common.queue
+readout_word s QueueLength = s.common.queue.waiting
 readout_word s (Count k) = half_of k (counter_at s.counters (k / 2)).count
 readout_word s (Raw k) = low_first k (raw_at s.status.rawcounts (k / 2))
 readout_word s (Threshold k) = half_of k (threshold_of (k % 4) (counter_at s.counters (k / 4)))

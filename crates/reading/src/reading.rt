@@ -9,7 +9,7 @@ use counters::Counter;
 use device::{Common, Crate, GateWord, ReadoutWord, Register, SettingWord, Settings, SharedWord};
 use gates::Gate;
 use lines::GATES;
-use loader::{MEMORY_WORDS, Reload};
+use loader::Reload;
 
 // Element i; past the end one as at power-up, the one default of its type.
 fn at<T: Copy + Default>(xs: &[T], i: u16) -> T
@@ -136,7 +136,7 @@ fn gate_word(gates: &[Gate; GATES], q: GateWord) -> u16
 
 // The word of a register.
 #[tactic(auto, unfolding(crate::specs::Read::word_in, counters::specs::Counter::counter_at, loader::specs::Memory::word_at))]
-pub fn word_in(s: &Crate, mem: &[u16; MEMORY_WORDS], r: Register) -> u16
+pub fn word_in(s: &Crate, mem: &[u16], r: Register) -> u16
     ensures { result ≡ word_in (machine s.now mem.now) r }
 {
     match r {

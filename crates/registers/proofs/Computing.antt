@@ -8,7 +8,7 @@ use Rattle.counters.specs.Counter.{counter_step, counter_tick, tick_counters, cl
 use Rattle.gates.specs.Gate.{gate_step, each_gate, gate_at, gate_bits, outputs_of, state_word}
 use Rattle.lines.specs.Lines.{bad_levels, rise_of, rises_of, step_phases}
 use Rattle.lines.specs.RawCounts.{count_rises}
-use Rattle.loader.specs.Loader.{pushed, oldest, dropped, loader_step, queue_step, group_at, load_into}
+use Rattle.loader.specs.Loader.{pushed, oldest, shifted, dropped, loader_step, queue_step, group_at, load_into}
 use Rattle.loader.specs.Memory.{word_at, loaded, replaced}
 use Rattle.watchdogs.specs.Watchdog.{watchdog_step, step_watchdogs, with_reset, reset_in, reset_watchdogs, watchdog_at, watchdog_word}
 use Rattle.registers.specs.Calls.{download_answer, call_answer, called, answer, step, powered, powered_memory, from, after}
@@ -24,7 +24,7 @@ use Rattle.writing.specs.Write.{request_answer, requested, reload_answer, reload
 unfoldable pub computing : List Row → Bool
 unfolding bit nibble fields fields_from pack masked_bits table_from tabulate each any least counter_step counter_tick tick_counters
     clear_counters counter_at overflow_word gate_step each_gate
-    gate_at gate_bits outputs_of step_phases rise_of rises_of count_rises pushed oldest dropped loader_step queue_step group_at load_into word_at loaded
+    gate_at gate_bits outputs_of step_phases rise_of rises_of count_rises pushed oldest shifted dropped loader_step queue_step group_at load_into word_at loaded
     replaced watchdog_step step_watchdogs with_reset reset_in reset_watchdogs watchdog_at watchdog_word download_answer call_answer called answer step
     powered powered_memory from after signals trips_by trips interlocks words_read scan_of backplane_map status_map control_map event_map counter_map decode_of kept module_word state_word readout_word setting_word shared_word gate_word word_in
     read_of power_up memory0 tag_request commanded tag_of tag_answer bad_levels common_tick status_tick tick_of request_answer requested reload_answer

@@ -19,7 +19,7 @@ pub fn power_up(mem: &mut [u16]) -> (Crate, Result<(), Cause>)
     ensures { (result ≡ powered mem.old) × (mem.new ≡ powered_memory mem.old) }
 {
     let state = Crate::default();
-    let Some(mem) = mem.as_mut_array() else {
+    let Some(mem) = mem.as_mut_array::<MEMORY_WORDS>() else {
         return (state, Err(Cause::Memory));
     };
     loader::clear_memory(mem);
@@ -32,7 +32,7 @@ pub fn read(state: &Crate, mem: &[u16], address: u16) -> Result<u16, Cause>
     ensures { result ≡ read_of (machine state.now mem.now) address }
 {
     let register = device::decode(address);
-    let mem = mem.as_array().ok_or(Cause::Memory)?;
+    let mem = mem.as_array::<MEMORY_WORDS>().ok_or(Cause::Memory)?;
     Ok(reading::word_in(state, mem, register.ok_or(Cause::Address)?))
 }
 
@@ -53,7 +53,7 @@ pub fn scan(state: &Crate, mem: &[u16]) -> Result<[OutputScan; OUTPUTS], Cause>
 pub fn write(state: &mut Crate, mem: &mut [u16], address: u16, word: u16) -> Result<(), Cause>
     ensures { (result ≡ answer (machine state.old mem.old) (call_write address word)) × (machine state.new mem.new ≡ step (machine state.old mem.old) (call_write address word)) }
 {
-    let mem = mem.as_mut_array().ok_or(Cause::Memory)?;
+    let mem = mem.as_mut_array::<MEMORY_WORDS>().ok_or(Cause::Memory)?;
     let register = device::decode(address).ok_or(Cause::Address)?;
     writing::write_at(state, mem, register, word)
 }

@@ -7,16 +7,18 @@ use mathlib.Core.List.{List, [], ◌∷◌}
 use mathlib.Core.Path.{◌≡◌, refl, ap, ◌∙◌}
 use borrow.Author.Tests.{eqb-true, eqb-false, lt-ltb, ne_eqb}
 use lib.Dec.{eqb}
-use lib.ListN.{get_or, get_or-append, length, length-append, length-drop}
-use lib.Seq.{get_or-append_seam, get_or-drop}
+use lib.ListN.{get_or}
+use lib.Seq.{get_or-set_same, get_or-set_other}
 use Rattle.std.proofs.lemmas.Grind.{common_steps}
 use Rattle.std.proofs.lemmas.Bool.Decides.{nat_tests}
 use Rattle.std.proofs.Common.{Option, Some, None}
 use Rattle.bools.proofs.Tests.{cases}
 use Rattle.std.proofs.lemmas.Bool.{and_parts}
+use Rattle.lists.proofs.Tables.{get_d_tabulate}
+use Rattle.loader.specs.declared.loader.Queue.{Queue}
 use Rattle.loader.specs.declared.loader.Reload.{Reload as Reloading}
 use Rattle.loader.specs.declared.loader.Request.{Request}
-use Rattle.loader.specs.Loader.{Queue, dropped, is_empty, loader_step, oldest, pushed, queue_step, request0, request_for}
+use Rattle.loader.specs.Loader.{dropped, is_empty, loader_step, oldest, pushed, queue_step, request0, request_for, shifted}
 use Rattle.device.specs.declared.map.Register.TheVariants.{Shared}
 use Rattle.device.specs.declared.map.SharedWord.TheVariants.{Reload}
 use Rattle.device.specs.declared.state.Common.{Common}
@@ -39,39 +41,39 @@ use Rattle.sheet.proofs.Sizes.{full_after}
 
 -- ---- a tick of the loader and the queue, at a request that stands somewhere
 
-waiting_some : (q : Queue) (k : ℕ) → k < length q → is_empty q ≡ false
-waiting_some q k h = ne_eqb (length q) 0 (λ e. omega arith)
+waiting_some : (q : Queue) (k : ℕ) → k < q.waiting → is_empty q ≡ false
+waiting_some q k h = ne_eqb q.waiting 0 (λ e. omega arith)
 
-dropped_at : (q : Queue) (k : ℕ) → get_or (dropped q) k request0 ≡ get_or q (suc k) request0
-unfolding dropped
-dropped_at q k = get_or-drop 1 q k request0 ∙ ap (λ (n : ℕ). get_or q n request0) (omega arith)
+dropped_at : (q : Queue) → q.waiting ≤ 16 → (k : ℕ) → suc k < q.waiting → get_or (dropped q).places k request0 ≡ get_or q.places (suc k) request0
+unfolding dropped shifted
+dropped_at q w k h = get_d_tabulate 16 _ k request0 (omega arith) ∙ ap (λ (n : ℕ). get_or q.places n request0) (omega arith)
 
-dropped_more : (q : Queue) (k : ℕ) → suc k < length q → k < length (dropped q)
+dropped_more : (q : Queue) (k : ℕ) → suc k < q.waiting → k < (dropped q).waiting
 unfolding dropped
-dropped_more q k h = omega (arith, length-drop 1 q)
+dropped_more q k h = omega arith
 
 -- the loader is idle or works on a request, with the equation in hand
 loaders : {A : Type 0} (l : Option Reloading) → (l ≡ None → A) → ((x : Reloading) → l ≡ Some x → A) → A
 loaders l f g = grind arith
 
-stands_tick : (cm : Common) (r : Request) (s : Stand) → LoaderInRange cm.loader → Stands cm r s →
+stands_tick : (cm : Common) (r : Request) (s : Stand) → cm.queue.waiting ≤ 16 → LoaderInRange cm.loader → Stands cm r s →
     Stands (common_tick cm) r (stand_tick cm.loader s)
 unfolding common_tick loader_step queue_step
-stands_tick cm r (waits zero) n (queued k h e) =
+stands_tick cm r (waits zero) w n (queued k h e) =
     loaders cm.loader
     (λ b. rw (b, waiting_some cm.queue 0 h) (loading _ refl (unfold oldest in e)))
     (λ l b. rw b (queued 0 h e))
-stands_tick cm r (waits (suc k)) n (queued j h e) =
+stands_tick cm r (waits (suc k)) w n (queued j h e) =
     loaders cm.loader
-    (λ b. rw (b, waiting_some cm.queue (suc k) h) (queued k (dropped_more cm.queue k h) (dropped_at cm.queue k ∙ e)))
+    (λ b. rw (b, waiting_some cm.queue (suc k) h) (queued k (dropped_more cm.queue k h) (dropped_at cm.queue w k h ∙ e)))
     (λ l b. rw b (queued (suc k) h e))
-stands_tick cm r works n (loading l b e) =
+stands_tick cm r works w n (loading l b e) =
     let n₁ : LoaderInRange (Some l) = rw b at n in
     rw b
     (cases (eqb l.next 127)
     (λ f. rw f past)
     (λ f. rw (f, lt-ltb l.next 127 (omega (arith, n₁.next, eqb-false l.next 127 f))) (loading _ refl e)))
-stands_tick cm r finished n past = loaders cm.loader (λ b. rw b past) (λ l b. rw b past)
+stands_tick cm r finished w n past = loaders cm.loader (λ b. rw b past) (λ l b. rw b past)
 
 -- ---- the measure falls by one with an accepted tick
 
@@ -101,16 +103,15 @@ left_tick cm r finished n past = loaders cm.loader (λ b. rw b refl) (λ l b. rw
 
 data Grown (q : Queue) : Queue → Type 0 where
   same : Grown q q
-  more : (r : Request) → length q < 16 → Grown q (pushed q r)
+  more : (r : Request) → q.waiting < 16 → Grown q (pushed q r)
 
 pub record Still (cm cm' : Common) : Type 0 where
   loader : cm'.loader ≡ cm.loader
   queue : Grown cm.queue cm'.queue
 
-place_grown : (q q' : Queue) → Grown q q' → (k : ℕ) → k < length q → (k < length q') × (get_or q' k request0 ≡ get_or q k request0)
+place_grown : (q q' : Queue) → Grown q q' → (k : ℕ) → k < q.waiting → (k < q'.waiting) × (get_or q'.places k request0 ≡ get_or q.places k request0)
 unfolding pushed
-place_grown q p same k e = (e, refl)
-place_grown q p (more r free) k e = (rw length-append (omega arith), get_or-append q (r ∷ []) request0 k e)
+place_grown q q' h k e = grind (arith, get_or-set_other)
 
 stands_still : (cm cm' : Common) → Still cm cm' → (r : Request) (s : Stand) → Stands cm r s → Stands cm' r s
 stands_still cm cm' t r (waits k) (queued j h e) =
@@ -174,7 +175,7 @@ module _ (r : Request) (s : Stand) (n : ℕ) where
 due_tick : (cm : Common) (r : Request) (s : Stand) (n : ℕ) → Due cm r s n → Due (common_tick cm) r (stand_tick cm.loader s) (n - 1)
 due_tick cm r s n d = record {
   range = common_tick_in cm d.range;
-  stands = stands_tick cm r s d.range.loader d.stands;
+  stands = stands_tick cm r s d.range.queue.waiting d.range.loader d.stands;
   left = unfold common_tick in (left_tick cm r s d.range.loader d.stands ∙ ap (λ (k : ℕ). k - 1) d.left);
 }
 
@@ -201,16 +202,16 @@ abbrev work : Machine → ℕ
 work m = ticks_at_work m.state.common.loader
 
 abbrev ahead : Machine → ℕ
-ahead m = length m.state.common.queue
+ahead m = m.state.common.queue.waiting
 
 -- it stands behind those that wait
-due_pushed : (cm cm' : Common) (r : Request) → CommonInRange cm' → length cm.queue < 16 → cm'.queue ≡ pushed cm.queue r → cm'.loader ≡ cm.loader →
-    Due cm' r (waits (length cm.queue)) (ticks_at_work cm.loader + 129 * (length cm.queue + 1))
-due_pushed cm cm' r h free q l = record {
-  range = h;
-  stands = queued (length cm.queue) (rw q (unfold pushed in (rw length-append (omega arith))))
-      (rw q (unfold pushed in (get_or-append_seam cm.queue r [] request0)));
-  left = ap (λ (x : Option Reloading). ticks_left x (waits (length cm.queue))) l;
+due_pushed : (cm cm' : Common) (r : Request) → CommonInRange cm → CommonInRange cm' → cm.queue.waiting < 16 → cm'.queue ≡ pushed cm.queue r →
+    cm'.loader ≡ cm.loader → Due cm' r (waits cm.queue.waiting) (ticks_at_work cm.loader + 129 * (cm.queue.waiting + 1))
+due_pushed cm cm' r h h' free q l = record {
+  range = h';
+  stands = queued cm.queue.waiting (rw q (unfold pushed in (omega arith)))
+      (rw q (unfold pushed in (get_or-set_same cm.queue.places cm.queue.waiting r request0 (omega (arith, h.queue.places)))));
+  left = ap (λ (x : Option Reloading). ticks_left x (waits cm.queue.waiting)) l;
 }
 
 made_by_lem : (cm : Common) (w : ℕ) (asks : Bool) (r : Request) → made_by cm w asks ≡ Some r →
@@ -227,13 +228,13 @@ tag_made : (m : Machine) (t : ℕ) → events_on m.state.common ≡ true → rig
 unfolding tag_of commanded tag_request
 tag_made m t on key one e = rw (on, key, one, e)
 
-due_request : (cm : Common) (w : ℕ) (r : Request) (cm' : Common) → CommonInRange cm' →
+due_request : (cm : Common) (w : ℕ) (r : Request) (cm' : Common) → CommonInRange cm → CommonInRange cm' →
     is_done (request_answer cm.queue (dataset_in w)) ≡ true → request_for (dataset_in w) (group_in w) ≡ r →
     cm'.queue ≡ (requested w cm).queue → cm'.loader ≡ cm.loader →
-    Due cm' r (waits (length cm.queue)) (ticks_at_work cm.loader + 129 * (length cm.queue + 1))
+    Due cm' r (waits cm.queue.waiting) (ticks_at_work cm.loader + 129 * (cm.queue.waiting + 1))
 unfolding requested
-due_request cm w r cm' h e same-request q l =
-    due_pushed cm cm' r h (taken cm.queue (dataset_in w) e).1 (q ∙ ap (pushed cm.queue) same-request) l
+due_request cm w r cm' h h' e same-request q l =
+    due_pushed cm cm' r h h' (taken cm.queue (dataset_in w) e).1 (q ∙ ap (pushed cm.queue) same-request) l
 
 abbrev DueMade : Machine → Request → Machine → Type 0
 DueMade m r m' = Due m'.state.common r (waits (ahead m)) (work m + 129 * (ahead m + 1))
@@ -247,7 +248,7 @@ made_write m a w r f h e =
     let p : a ≡ 0x0A02 = eqb-true a 0x0A02 (and_parts _ _ b.0).0 in
     let made = reload_made w cm (and_parts (eqb a 0x0A02) _ b.0).1 b.1 in
     rw (step_called m f (write a w), p, decode_reload, made)
-    (due_request cm w r (with_reload (kept (Shared Reload) w) (requested w cm)) (rw made at (reload_in w cm h)) b.1 b.2 refl (unfold requested in refl))
+    (due_request cm w r (with_reload (kept (Shared Reload) w) (requested w cm)) h (rw made at (reload_in w cm h)) b.1 b.2 refl (unfold requested in refl))
 
 made_tag : (m : Machine) (t : ℕ) (r : Request) → WholeMemory m.memory → CommonInRange m.state.common → request_made m (tag t) ≡ Some r →
     DueMade m r (step m (tag t))
@@ -261,7 +262,7 @@ made_tag m t r f h e =
     let one = (and_parts (events_on cm && right_key cm t) _ b.0).1 in
     let made = tag_made m t on key one b.1 in
     rw (step_called m f (tag t))
-    (due_request cm t r (tag_of m.state t).common (called_keeps range_keeps m h (tag t) tt) b.1 b.2 (ap (λ (x : Common). x.queue) made)
+    (due_request cm t r (tag_of m.state t).common h (called_keeps range_keeps m h (tag t) tt) b.1 b.2 (ap (λ (x : Common). x.queue) made)
     (ap (λ (x : Common). x.loader) made ∙ (unfold requested in refl)))
 
 due_made : (m : Machine) (x : Call) (r : Request) → WholeMemory m.memory → CommonInRange m.state.common → request_made m x ≡ Some r → DueMade m r (step m x)

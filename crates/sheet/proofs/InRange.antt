@@ -1,28 +1,29 @@
 -- Each step of the core stays in the ranges: counters, gates, watchdogs, phases, queue and loader.
-use Prim.Native.Nat.{ℕ, zero, suc, ◌+◌, ◌^◌, ◌≤◌, ◌<◌}
+use Prim.Native.Nat.{ℕ, ◌+◌, ◌^◌, ◌≤◌, ◌<◌}
 use native.Mathlib.Omega.{arith}
 use mathlib.Core.Bool.{Bool, true}
-use mathlib.Core.List.{List, [], ◌∷◌, ◌++◌}
+use mathlib.Core.List.{List}
 use mathlib.Core.Path.{◌≡◌}
 use lib.Dec.{lit<}
 use lib.IntN.{ℤ, pos}
-use lib.ListN.{get_or, length, length-append, length-drop}
-use lib.Seq.{get_or-drop}
+use lib.ListN.{get_or}
 use lib.Signed.{mag}
 use Rattle.std.proofs.lemmas.Grind.{common_steps}
 use Rattle.std.proofs.lemmas.Bool.Decides.{nat_tests}
 use Rattle.std.proofs.Common.{Option, Some, None}
 use Rattle.bools.proofs.Tests.{both}
-use Rattle.lists.proofs.All.{all_each}
+use Rattle.lists.proofs.All.{all_each, all_tabulate}
+use Rattle.lists.proofs.Tables.{length_tabulate}
 use Rattle.counters.specs.declared.counter.Counter.{Counter}
 use Rattle.gates.specs.declared.gate.Gate.{Gate}
 use Rattle.loader.specs.declared.loader.Reload.{Reload}
+use Rattle.loader.specs.declared.loader.Queue.{Queue}
 use Rattle.loader.specs.declared.loader.Request.{Request}
 use Rattle.watchdogs.specs.declared.watchdog.Watchdog.{Watchdog}
 use Rattle.counters.specs.Counter.{cleared, counter0, counter_at, counter_step, counter_tick, with_count, with_input}
 use Rattle.gates.specs.Gate.{gate_step}
 use Rattle.lines.specs.Lines.{frequency, phase_limit, phase_step, step_phases}
-use Rattle.loader.specs.Loader.{Queue, dropped, is_empty, load_into, loader_step, oldest, pushed, queue_step, request0}
+use Rattle.loader.specs.Loader.{dropped, is_empty, load_into, loader_step, oldest, pushed, queue_step, request0, shifted}
 use Rattle.loader.specs.Memory.{loaded, word_at}
 use Rattle.watchdogs.specs.Watchdog.{watchdog_step, watchdog_top}
 use Rattle.causes.specs.Causes.{is_done}
@@ -93,26 +94,20 @@ pub request0_in : RequestInRange request0
 request0_in = record { dataset = lit< tt; group = lit< tt }
 
 -- a request that is taken is in range, and there is a place for it
-pub taken : (q : Queue) (d : ℕ) → is_done (request_answer q d) ≡ true → (d < 32) × (length q < 16)
+pub taken : (q : Queue) (d : ℕ) → is_done (request_answer q d) ≡ true → (d < 32) × (q.waiting < 16)
 unfolding request_answer
 taken q d e = (grind (arith, nat_tests), grind (arith, nat_tests))
 
-all_pushed : (q : Queue) (r : Request) → RequestInRange r → ((i : ℕ) → RequestInRange (get_or q i request0)) →
-    (i : ℕ) → RequestInRange (get_or (q ++ (r ∷ [])) i request0)
-all_pushed [] r p h zero = p
-all_pushed [] r p h (suc i) = request0_in
-all_pushed (x ∷ q) r p h zero = h zero
-all_pushed (x ∷ q) r p h (suc i) = all_pushed q r p (λ i. h (suc i)) i
-
-pub pushed_in : (q : Queue) → QueueInRange q → (r : Request) → RequestInRange r → length q < 16 → QueueInRange (pushed q r)
+pub pushed_in : (q : Queue) → QueueInRange q → (r : Request) → RequestInRange r → q.waiting < 16 → QueueInRange (pushed q r)
 unfolding pushed
-pushed_in q h r p free = record { waiting = rw length-append (omega arith); requests = all_pushed q r p h.requests }
+pushed_in q h r p free = grind (arith, common_steps)
 
 dropped_in : (q : Queue) → QueueInRange q → QueueInRange (dropped q)
-unfolding dropped
+unfolding dropped shifted
 dropped_in q h = record {
-  waiting = omega (arith, length-drop 1 q, h.waiting);
-  requests = λ i. rw (get_or-drop 1 q i request0) (h.requests (1 + i));
+  places = length_tabulate 16 _;
+  waiting = omega (arith, h.waiting);
+  requests = all_tabulate request0 (λ i. RequestInRange) (λ i. request0_in) 16 _ (λ i. h.requests (i + 1));
 }
 
 pub queue_in : (l : Option Reload) (q : Queue) → QueueInRange q → QueueInRange (queue_step l q)

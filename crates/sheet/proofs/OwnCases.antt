@@ -5,7 +5,7 @@ use mathlib.Core.Bool.{Bool, true, false}
 use mathlib.Core.List.{List, [], ◌∷◌, ◌++◌}
 use mathlib.Core.Path.{◌≡◌, refl}
 use lib.IntN.{ℤ, pos, negsuc}
-use lib.ListN.{length, replicate}
+use lib.ListN.{replicate}
 use Rattle.bools.specs.Pick.{pick}
 use Rattle.words.specs.Word.{pack}
 use Rattle.counters.specs.Counter.{counter0, with_count, with_thresholds}
@@ -234,7 +234,7 @@ requests zero = []
 requests (suc n) = tagged 0x1000 ∷ requests n
 
 abbrev waiting3 : List Part → ℕ
-waiting3 parts = length (sheet_after 3 (enabled 1 ∷ parts)).common.queue
+waiting3 parts = (sheet_after 3 (enabled 1 ∷ parts)).common.queue.waiting
 
 abbrev pub queue_cases : List (Case ℕ)
 queue_cases =

@@ -24,7 +24,7 @@ use Rattle.counters.specs.Counter.{clear_counters, cleared, counter0, counter_at
 use Rattle.gates.specs.Gate.{each_gate, gate0, gate_at, gate_step, with_mode, with_prepare, with_prepare_pulse, with_recover, with_recover_pulse, with_timeout}
 use Rattle.lines.specs.Lines.{bad_levels, phase_limit}
 use Rattle.lines.specs.RawCounts.{count_rises, raw_at}
-use Rattle.loader.specs.Loader.{request_for}
+use Rattle.loader.specs.Loader.{request0, request_for}
 use Rattle.loader.specs.Memory.{loaded, memory_words, replaced, word_at}
 use Rattle.watchdogs.specs.Watchdog.{reset_in, reset_watchdogs, step_watchdogs, watchdog0, watchdog_at, watchdog_top, with_reset}
 use Rattle.device.specs.declared.map.Register.{Register}
@@ -48,7 +48,7 @@ use Rattle.ticking.specs.Tick.{common_tick, status_tick, tick_of}
 use Rattle.writing.specs.Write.{control_write, dataset_in, enable_write, group_in, key_write, on_common, on_counters, reload_answer, reload_write, request_answer, requested, reset_by, gates_write, settings_write, shared_write, with_reload, with_selected, write_at}
 use Rattle.registers.proofs.Keeping.{Any, Change, Keeps, after_keeps, asked, changed, cleared_all, list_keeps, noted, prepared, recovered, written}
 use Rattle.registers.proofs.Whole.{WholeMemory, accepted, length_replaced}
-use Rattle.sheet.specs.Reachable.{CommonInRange, CounterInRange, GateInRange, OfWords, Reached, SettingsInRange, StatusInRange}
+use Rattle.sheet.specs.Reachable.{CommonInRange, CounterInRange, GateInRange, OfWords, Reached, RequestInRange, SettingsInRange, StatusInRange}
 use Rattle.sheet.proofs.InRange.{cleared_in, counter0_in, gate_in_lem, input_in, load_all, load_in, loader_in, phases_in, pushed_in, queue_in, request0_in, taken, tick_in, watchdog_in}
 
 -- the lowest n bits of a word are below 2 ^ n: no unused bit is stored
@@ -366,8 +366,9 @@ common_start = record {
   enable = lit< tt;
   reload = lit< tt;
   queue = record {
+    places = length_tabulate 16 _;
     waiting = omega arith;
-    requests = λ i. request0_in;
+    requests = all_tabulate request0 (λ i. RequestInRange) (λ i. request0_in) 16 _ (λ i. request0_in);
   };
   loader = tt;
   phases = all_tabulate 0 (λ k n. n < phase_limit) (λ k. lit< tt) 9 _ (λ k. lit< tt);

@@ -110,14 +110,14 @@ settled_by_one = comparing.settled_by_one
 -- A request that call x makes after the list l, with k waiting ahead of it, is finished after every list with 128 + 129 × (k + 1) accepted
 -- ticks, whatever else is in that list.
 pub finishes : (l : List Call) (x : Call) (r : Request) → request_made (after l) x ≡ Some r →
-    (more : List Call) → 128 + 129 * (length (after l).state.common.queue + 1) ≤ accepted_ticks more →
-    stand_after (step (after l) x) more (waits (length (after l).state.common.queue)) ≡ finished
+    (more : List Call) → 128 + 129 * ((after l).state.common.queue.waiting + 1) ≤ accepted_ticks more →
+    stand_after (step (after l) x) more (waits (after l).state.common.queue.waiting) ≡ finished
 finishes = finishing.finishes
 
 -- Until then it stands where `stand_after` says: in its place of the queue, never lost, doubled or overtaken, or in the loader.
 pub stands : (l : List Call) (x : Call) (r : Request) → request_made (after l) x ≡ Some r → (more : List Call) →
     Stands (from (step (after l) x) more).state.common r
-    (stand_after (step (after l) x) more (waits (length (after l).state.common.queue)))
+    (stand_after (step (after l) x) more (waits (after l).state.common.queue.waiting))
 stands = finishing.stands
 
 -- After every list from power-up whose downloads are of 16-bit words: all numbers in their ranges, unused bits 0, counts 0 while RESET is set.

@@ -7,7 +7,7 @@ use mathlib.Core.List.{List, [], ◌∷◌, ◌++◌}
 use mathlib.Core.Path.{◌≡◌, refl, sym, ap, ◌∙◌}
 use borrow.Author.Tests.{eqb-true, eqb-false, ne_eqb}
 use lib.Dec.{eqb}
-use lib.ListN.{drop, length, length-append, length-drop}
+use lib.ListN.{length}
 use Rattle.std.proofs.lemmas.Bool.Decides.{nat_tests}
 use Rattle.std.proofs.Common.{Ok, Option, Some, None, is_some}
 use Rattle.std.specs.Option.{option_map_or}
@@ -17,8 +17,9 @@ use Rattle.words.proofs.Fields.{bit_low}
 use Rattle.bools.proofs.Tests.{both, cases}
 use Rattle.causes.specs.Causes.{is_done}
 use Rattle.lines.specs.Lines.{bad_levels}
+use Rattle.loader.specs.declared.loader.Queue.{Queue}
 use Rattle.loader.specs.declared.loader.Reload.{Reload as Reloading}
-use Rattle.loader.specs.Loader.{Queue, dropped, loader_step, pushed, queue_step}
+use Rattle.loader.specs.Loader.{dropped, loader_step, pushed, queue_step}
 use Rattle.device.specs.declared.map.Register.{Register}
 use Rattle.device.specs.declared.map.Register.TheVariants.{Readout, Shared}
 use Rattle.device.specs.declared.map.ReadoutWord.TheVariants.{QueueLength}
@@ -48,14 +49,14 @@ record Told (cm : Common) (t : Tally) : Type 0 where
   key : cm.key ≡ t.key
   enabled : bit cm.enable 0 ≡ t.enabled
   triggered : bit cm.reload 12 ≡ t.triggered
-  counts : length cm.queue + t.taken ≡ t.made
+  counts : cm.queue.waiting + t.taken ≡ t.made
   work : ticks_at_work cm.loader ≡ t.busy
 
 -- the same test on both sides
 told_pick : (b c : Bool) → b ≡ c → (x y : Common) (u v : Tally) → Told x u → Told y v → Told (pick b x y) (pick c u v)
 told_pick b c e x y u v p q = rw e (cases c (λ f. rw f p) (λ f. rw f q))
 
-waits_as : (cm : Common) (t : Tally) → Told cm t → waiting t ≡ length cm.queue
+waits_as : (cm : Common) (t : Tally) → Told cm t → waiting t ≡ cm.queue.waiting
 waits_as cm t h = omega (arith, h.counts)
 
 -- ---- requests
@@ -67,7 +68,7 @@ enters_lem cm t h w = rw (waits_as cm t h) (grind (arith, nat_tests))
 
 told_requested : (cm : Common) (t : Tally) → Told cm t → (w : ℕ) → Told (requested w cm) (one_more t)
 unfolding requested pushed
-told_requested cm t h w = grind (arith, length-append)
+told_requested cm t h w = grind arith
 
 told_stored : (cm : Common) (t : Tally) → Told cm t → (w : ℕ) →
     Told (with_reload (kept (Shared Reload) w) cm) (with_words t.key t.enabled (trigger w) t)
@@ -102,17 +103,16 @@ told_tick : (l : Option Reloading) (control key enable reload : ℕ) (q : Queue)
     LoaderInRange l → Told (common_of control key enable reload q l phases) t → Told (common_tick (common_of control key enable reload q l phases)) (tick_tally t)
 unfolding common_tick loader_step queue_step tick_tally dropped
 told_tick None control key enable reload q phases t n h =
-    let w : waiting t ≡ length q = omega (arith, h.counts) in
-    cases (eqb (length q) 0)
+    let w : waiting t ≡ q.waiting = omega (arith, h.counts) in
+    cases (eqb q.waiting 0)
     (λ e.
     let f : eqb (waiting t) 0 ≡ true = rw w e in
     rw (e, f, ← h.work) assumption)
     (λ e.
     let f : eqb (waiting t) 0 ≡ false = rw w e in
-    let less : length (drop 1 q) ≡ length q - 1 = length-drop 1 q in
-    let some : length q ≡ 0 → ⊥ = eqb-false (length q) 0 e in
+    let some : q.waiting ≡ 0 → ⊥ = eqb-false q.waiting 0 e in
     rw (e, f, ← h.work)
-    (record { key = h.key; enabled = h.enabled; triggered = h.triggered; counts = omega (arith, h.counts, less, some); work = refl }))
+    (record { key = h.key; enabled = h.enabled; triggered = h.triggered; counts = omega (arith, h.counts, some); work = refl }))
 told_tick (Some l) control key enable reload q phases t n h =
     let some : eqb t.busy 0 ≡ false = ne_eqb t.busy 0 (λ e. omega (arith, h.work, n.next)) in
     rw some (assumption (work_less l q t.busy n.next h.work))
@@ -199,7 +199,7 @@ decode_length : decode_of 0x0905 ≡ Some (Readout QueueLength)
 unfolding decode_of event_map
 decode_length = refl
 
-read_length : (l : List Call) → read_of (after l) 0x0905 ≡ Ok (length (after l).state.common.queue)
+read_length : (l : List Call) → read_of (after l) 0x0905 ≡ Ok (after l).state.common.queue.waiting
 unfolding word_in readout_word
 read_length l = read_whole (after l) (full_after l) 0x0905 ∙ rw decode_length refl
 

@@ -3,13 +3,14 @@ use Rattle.std.specs.Prelude.{ℕ, ◌*◌, ◌^◌, ◌≤◌, ◌<◌, true, O
 use Rattle.std.specs.Int.Signed.{mag}
 use Rattle.counters.specs.declared.counter.Counter.{Counter}
 use Rattle.gates.specs.declared.gate.Gate.{Gate}
+use Rattle.loader.specs.declared.loader.Queue.{Queue}
 use Rattle.loader.specs.declared.loader.Reload.{Reload as Reloading}
 use Rattle.loader.specs.declared.loader.Request.{Request}
 use Rattle.counters.specs.Counter.{counter_at, reset_on}
 use Rattle.gates.specs.Gate.{gate_at, timeout_unit}
 use Rattle.lines.specs.Lines.{gate_count, input_count, phase_limit}
 use Rattle.lines.specs.RawCounts.{raw_at}
-use Rattle.loader.specs.Loader.{Queue, request0}
+use Rattle.loader.specs.Loader.{request0}
 use Rattle.loader.specs.Memory.{memory_words, word_at}
 use Rattle.watchdogs.specs.Watchdog.{watchdog_at, watchdog_top}
 use Rattle.device.specs.declared.map.Register.TheVariants.{Setting, Shared}
@@ -42,8 +43,9 @@ pub record RequestInRange (r : Request) : Type 0 where
 
 -- "a queue of 16"
 pub record QueueInRange (q : Queue) : Type 0 where
-  pub waiting : length q ≤ 16
-  pub requests : (i : ℕ) → RequestInRange (get_or q i request0)
+  pub places : length q.places ≡ 16
+  pub waiting : q.waiting ≤ 16
+  pub requests : (i : ℕ) → RequestInRange (get_or q.places i request0)
 
 -- a busy loader's request, and the counter that it handles next
 pub record ReloadingInRange (l : Reloading) : Type 0 where

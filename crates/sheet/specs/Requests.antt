@@ -1,5 +1,5 @@
 -- Document 01, "Threshold memory and loader": where an accepted request stands, until counter 127 has been handled for it.
-use Rattle.std.specs.Prelude.{ℕ, zero, suc, ◌+◌, ◌-◌, ◌*◌, ◌<◌, Bool, ◌&&◌, Option, Some, None, List, [], ◌∷◌, ◌≡◌, eqb, get_or, length}
+use Rattle.std.specs.Prelude.{ℕ, zero, suc, ◌+◌, ◌-◌, ◌*◌, ◌<◌, Bool, ◌&&◌, Option, Some, None, List, [], ◌∷◌, ◌≡◌, eqb, get_or}
 use Rattle.bools.specs.Pick.{pick}
 use Rattle.loader.specs.declared.loader.Reload.{Reload}
 use Rattle.loader.specs.declared.loader.Request.{Request}
@@ -63,6 +63,6 @@ ticks_left l finished = 0
 
 -- that the request r does stand there: in its place of the queue, or in the loader
 pub data Stands (cm : Common) (r : Request) : Stand → Type 0 where
-  queued : (k : ℕ) → k < length cm.queue → get_or cm.queue k request0 ≡ r → Stands cm r (waits k)
+  queued : (k : ℕ) → k < cm.queue.waiting → get_or cm.queue.places k request0 ≡ r → Stands cm r (waits k)
   loading : (l : Reload) → cm.loader ≡ Some l → l.request ≡ r → Stands cm r works
   past : Stands cm r finished

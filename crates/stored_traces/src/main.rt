@@ -1,6 +1,6 @@
 // The stored traces of the file `traces`: each is run from power-up, and its report is printed with a digest of the registers and the
 // memory that it leaves. What is expected is what the reference model prints. In the file a trace stands behind its length in four
-// bytes and its budget of ticks in eight, high byte first.
+// bytes and its budget of ticks in eight, high byte first, of which the highest bit is not looked at.
 #![tactic(auto)]
 
 use machine::Machine;
@@ -35,17 +35,23 @@ fn run(rt: &impl Print, stored: Stored<'_>) {
     write(rt, told.put_hexadecimal(8, d.into()).put(b'\n'));
 }
 
+// As many bytes of the file as the buffer has, if it has them; where a read fails, it has no more.
+fn read_whole<'a, F: Read>(file: &mut F, buf: &'a mut [u8]) -> Option<&'a [u8]> {
+    let wanted = buf.len();
+    let read = standard_input::read_input(file, buf).unwrap_or_else(|e| e.read);
+    (read.len() == wanted).then_some(read)
+}
+
 // The next trace of the file, if it has one whole that the buffer holds.
 fn next_trace<'a, F: Read>(file: &mut F, buf: &'a mut [u8; 65536]) -> Option<Stored<'a>> {
     let mut length = [0; 4];
     let mut budget = [0; 8];
-    file.read_exact(&mut length).ok()?;
-    file.read_exact(&mut budget).ok()?;
-    let trace = buf.get_mut(..u32::from_be_bytes(length) as usize)?;
-    file.read_exact(trace).ok()?;
+    read_whole(file, &mut length)?;
+    read_whole(file, &mut budget)?;
+    let trace = read_whole(file, buf.get_mut(..u32::from_be_bytes(length) as usize)?)?;
     Some(Stored {
         trace,
-        budget: u64::from_be_bytes(budget),
+        budget: u64::from_be_bytes(budget) % (1 << 63),
     })
 }
 

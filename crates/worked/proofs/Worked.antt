@@ -5,7 +5,7 @@ use mathlib.Core.Bool.{Bool, true, false}
 use mathlib.Core.List.{List, [], ◌∷◌, ◌++◌}
 use lib.Dec.{eqb, ltb}
 use lib.IntN.{pos, negsuc}
-use lib.ListN.{replicate, get_or, length}
+use lib.ListN.{replicate, get_or}
 use Rattle.std.specs.Option.{option_map_or}
 use Rattle.numbers.specs.Signed.{word_of}
 use Rattle.words.specs.Word.{bit_of}
@@ -347,7 +347,7 @@ stands_after n = stand_number (stand_after (after (just_taken ++ asked 1 0)) (of
 -- with one ahead it is finished at tick 128 + 129 × 2, and not before
 unfoldable pub bound_rows : List Row
 bound_rows =
-    row 1 (length (after just_taken).state.common.queue)
+    row 1 (after just_taken).state.common.queue.waiting
     ∷ row 101 (stands_after 128)
     ∷ row 100 (stands_after 129)
     ∷ row 1 (stands_after 385)

@@ -4,9 +4,10 @@ use Rattle.bools.specs.Pick.{pick}
 use Rattle.words.specs.Word.{bit, field_of}
 use Rattle.counters.specs.declared.counter.Counter.{Counter}
 use Rattle.gates.specs.declared.gate.Gate.{Gate}
+use Rattle.loader.specs.declared.loader.Queue.{Queue}
 use Rattle.counters.specs.Counter.{clear_counters, counter_at, reset_on, with_input}
 use Rattle.gates.specs.Gate.{each_gate, gate_at, with_mode, with_prepare, with_recover, with_timeout}
-use Rattle.loader.specs.Loader.{Queue, is_beyond, is_full, pushed, request_for}
+use Rattle.loader.specs.Loader.{is_beyond, is_full, pushed, request_for}
 use Rattle.watchdogs.specs.Watchdog.{reset_watchdogs}
 use Rattle.causes.specs.declared.Cause.TheVariants.{ReadOnly, Dataset, Full}
 use Rattle.device.specs.declared.map.GateWord.{GateWord}

@@ -14,7 +14,7 @@ use device::{
 };
 use gates::Gate;
 use lines::GATES;
-use loader::{Dataset, MEMORY_WORDS, Request};
+use loader::{Dataset, Request};
 
 // A request enters the queue, or is refused: dataset above 31, then 16 waiting.
 #[tactic(auto, using(bools::proofs::Tests::tests), unfolding(crate::specs::Write::request_answer))]
@@ -129,12 +129,7 @@ fn write_gates(gates: &mut [Gate; GATES], q: GateWord, word: u16)
 
 // What a write answers, and does to the crate and the memory; a refused one leaves both.
 #[tactic(auto, using(lists::proofs::Sweep::get_d_any), unfolding(crate::specs::Write::write_at, crate::specs::Write::write_answer, device::specs::Map::kept, counters::specs::Counter::counter_at))]
-pub fn write_at(
-    s: &mut Crate,
-    mem: &mut [u16; MEMORY_WORDS],
-    r: Register,
-    word: u16,
-) -> Result<(), Cause>
+pub fn write_at(s: &mut Crate, mem: &mut [u16], r: Register, word: u16) -> Result<(), Cause>
     ensures { (result ≡ write_answer s.old.common r word) × (machine s.new mem.new ≡ write_at (machine s.old mem.old) r word) }
 {
     match r {

@@ -2,8 +2,7 @@
 use mathlib.Core.Path.{sym, ◌∙◌}
 use borrow.Author.Rules.{rules}
 use Rattle.lists.proofs.Tables.{tabulate_fill}
-use Rattle.loader.specs.Memory.{memory_words}
 use Rattle.loader.proofs.memory.clear_memory.Goals as goal
 
 pub returns : goal.returns
-returns c = c.fill.ensures.after (λ y e. search (rules, e)) ∙ rw c.told-mem (sym (tabulate_fill memory_words 0))
+returns c = c.fill.ensures.after (λ y e. search (rules, e)) ∙ sym (tabulate_fill _ 0)

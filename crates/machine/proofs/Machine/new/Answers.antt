@@ -8,5 +8,5 @@ use Rattle.machine.proofs.Machine.new.Goals as goal
 
 pub returns : goal.returns
 returns c =
-    let m : machine c.power_up-state.result.0 c.power_up-state.new.mem ≡ machine0 = powered_up _ _ _ (search rules) c.power_up-state.ensures in
+    let m : machine c.power_up-answer.result.0 c.power_up-answer.new.mem ≡ machine0 = powered_up _ _ _ (search rules) c.power_up-answer.ensures in
     m
