@@ -6,6 +6,7 @@ use mathlib.Core.List.{List, [], ◌∷◌, ◌++◌, append_assoc, append-nil}
 use mathlib.Core.Path.{◌≡◌, refl, sym, ◌∙◌}
 use borrow.Author.Tests.{ltb-true, ltb-false, eq-eqb, ne_eqb}
 use lib.Dec.{ltb}
+use lib.ListN.{length}
 use Rattle.std.specs.Char.{digit_char}
 use Rattle.std.specs.Fmt.{digits, digits_onto, digit_glyph, decimal as std_decimal}
 use Rattle.bools.proofs.Tests.{cases, pick_same}
@@ -52,9 +53,9 @@ hexadecimal_more (suc k) n some =
 
 module _ (places n : ℕ) where
   -- no digits, which leave a page as it is
-  pub no_digits : (p : Page) → places ≡ 0 → cut (written p ++ hexadecimal places n) ≡ written p
+  pub no_digits : (p : Page) → length p.bytes ≡ 256 → places ≡ 0 → cut (written p ++ hexadecimal places n) ≡ written p
   unfolding hexadecimal
-  no_digits p none = rw none (sym (same_page p))
+  no_digits p e none = rw none (sym (same_page p e))
 
   -- one more, behind those of the front
   pub one_more_digit : (w : List ℕ) → (places ≡ 0 → ⊥) →

@@ -5,9 +5,9 @@ use Rattle.pages.specs.declared.page.Page.{Page}
 abbrev pub page_bytes : ℕ
 page_bytes = 256
 
--- the bytes written
+-- the bytes written: the first `length`
 unfoldable pub written : Page → List ℕ
-written p = p.text.items
+written p = take p.length p.bytes
 
 -- what a page holds of a text: what goes past it is lost. `printed` fits (proofs/Sizes.antt)
 unfoldable pub cut : List ℕ → List ℕ

@@ -1,19 +1,14 @@
 // A page of text, handed on by value from one text put on it to the next.
-ghost use Rattle.std.specs.Prelude.{◌≤◌};
-ghost use Rattle.arrayvec.specs.ArrayVec.{array_vec_len};
 
-use arrayvec::ArrayVec;
-use std::io::Write;
-
-// At most 256 bytes: what goes past them is lost.
-#[derive(Drop)]
+// 256 bytes, of which the first `length` are written.
+#[derive(Clone, Copy)]
 pub struct Page {
-    text: ArrayVec<u8, 256>,
-    ghost fits: { array_vec_len text ≤ 256 },
+    pub bytes: [u8; 256],
+    pub length: usize,
 }
 
 impl Page {
-    ghost use Rattle.std.specs.Prelude.{◌≡◌, [], ◌∷◌, ◌++◌, length};
+    ghost use Rattle.std.specs.Prelude.{◌≡◌, [], ◌∷◌, ◌++◌, ◌≤◌, length};
     ghost use Rattle.pages.specs.Page.{written, cut, page_bytes};
 
     // An empty page.
@@ -22,25 +17,36 @@ impl Page {
         ensures { written result ≡ [] }
     {
         Page {
-            text: ArrayVec::new(),
+            bytes: [0; 256],
+            length: 0,
         }
     }
 
     // One more byte; a full page stays full.
-    #[tactic(auto, using(crate::proofs::Pages::fits, crate::proofs::Pages::full), unfolding(crate::specs::Page::written))]
+    #[tactic(auto, using(crate::proofs::Pages::put_within, crate::proofs::Pages::put_full))]
     pub fn put(mut self, b: u8) -> Page
-        ensures { written result ≡ cut (written self ++ (b ∷ [])) }
+        ensures text { written result ≡ cut (written self ++ (b ∷ [])) }
+        ensures fits { result.length ≤ length result.bytes }
     {
-        let _full = self.text.try_push(b);
+        let at = self.length;
+        if at < 256 {
+            self.bytes[at] = b;
+            self.length = at + 1;
+            return self;
+        }
+        self.length = 256;
         self
     }
 
     // A text put behind what is written: of any bytes, where a `&str` would ask more of callers.
-    #[tactic(auto, using(crate::proofs::Pages::take_room), unfolding(crate::specs::Page::written))]
+    #[tactic(auto, using(crate::proofs::Pages::put_part))]
     pub fn put_text(mut self, text: &[u8]) -> Page
         ensures { written result ≡ cut (written self ++ text.now) }
     {
-        let _fits = self.text.write(text);
+        let at = self.length.min(256);
+        let more = (256 - at).min(text.len());
+        self.bytes[at..at + more].copy_from_slice(&text[..more]);
+        self.length = at + more;
         self
     }
 
@@ -50,6 +56,6 @@ impl Page {
         ensures text { result.now ≡ written self.now }
         ensures fits { length result.now ≤ page_bytes }
     {
-        self.text.as_slice()
+        &self.bytes[..self.length.min(256)]
     }
 }

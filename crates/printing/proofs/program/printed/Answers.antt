@@ -8,13 +8,13 @@ use Rattle.printing.specs.Printed.{printed}
 use Rattle.printing.proofs.Sizes.{whole}
 use Rattle.printing.proofs.program.printed.Goals as goal
 
-pub returns : goal.returns
+pub returns-clause-text : goal.returns-clause-text
 unfolding printed
-returns c =
+returns-clause-text c =
     let m = machine c.args.state.now c.args.mem.now in
     let e : written c.put.result ≡ cut (printed c.args.report m) =
     rw (
-      c.put.ensures,
+      c.put.ensures.text,
       c.put_hexadecimal.ensures,
       c.put_text.ensures,
       c.into.ensures,

@@ -1,7 +1,8 @@
--- With the words that are left put on it, the line has all.
+-- With the words that are left and the line's end put on it, the line has all.
 use Prim.Native.Nat.{◌-◌}
 use mathlib.Core.List.{◌++◌}
 use mathlib.Core.Path.{◌≡◌}
+use Rattle.std.specs.Prelude.{codes}
 use Rattle.device.specs.State.{machine}
 use Rattle.pages.specs.Page.{written, cut}
 use Rattle.printing.specs.Printed.{words_from}
@@ -10,4 +11,4 @@ use Rattle.printing.proofs.program.put_block.Given as goal
 abbrev pub invariant-loop-a : goal.invariant-loop-a
 invariant-loop-a l =
     let words = words_from (machine l.state l.mem) in
-    cut (written l.line ++ words (l.a-end - l.a) l.a) ≡ cut (written l.initial.line ++ words 8 l.address)
+    cut (written l.line ++ (words (l.a-end - l.a) l.a ++ codes "\n")) ≡ cut (written l.initial.line ++ (words 8 l.address ++ codes "\n"))

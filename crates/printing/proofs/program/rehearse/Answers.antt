@@ -3,5 +3,5 @@ use mathlib.Core.Path.{◌∙◌}
 use Rattle.printing.proofs.Prints.{prints_from}
 use Rattle.printing.proofs.program.rehearse.Goals as goal
 
-pub returns : goal.returns
-returns c = c.printed.ensures ∙ prints_from _ _ _ _ _ _ c.min.ensures c.new-machine.ensures c.run-report.ensures
+pub returns-clause-text : goal.returns-clause-text
+returns-clause-text c = c.printed.ensures.text ∙ prints_from _ _ _ _ _ _ c.min.ensures c.new-machine.ensures c.run-report.ensures
