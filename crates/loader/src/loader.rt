@@ -31,12 +31,13 @@ impl From<u16> for Request {
     }
 }
 
-// The places of the queue, and their number as that of requests that wait.
+// The places of the queue.
 const QUEUE_PLACES: usize = 16;
 
+// So many waiting requests fill it.
 const FULL: u16 = QUEUE_PLACES as u16;
 
-// The first `waiting` places hold requests, the oldest first. A value of any number is a queue, also of one that no list of calls reaches.
+// The first `waiting` places hold requests, the oldest first. Any count makes a queue, one above 16 too, though no list of calls reaches it.
 #[derive(Clone, Copy)]
 pub struct Queue {
     pub places: [Request; QUEUE_PLACES],
@@ -89,7 +90,7 @@ impl Queue {
         self.waiting == 0
     }
 
-    // Whether 16 requests wait; no list of calls makes more wait.
+    // Whether 16 requests wait, or more, which no list of calls reaches.
     #[tactic(auto, using(bools::proofs::Tests::tests))]
     pub fn is_full(&self) -> bool
         ensures { result ≡ is_full self.now }
