@@ -1,9 +1,12 @@
 // A page of text, handed on by value from one text put on it to the next.
 
-// 256 bytes, of which the first `length` are written.
+// The bytes that a page holds.
+const PAGE_BYTES: usize = 256;
+
+// A page's bytes, of which the first `length` are written.
 #[derive(Clone, Copy)]
 pub struct Page {
-    pub bytes: [u8; 256],
+    pub bytes: [u8; PAGE_BYTES],
     pub length: usize,
 }
 
@@ -17,7 +20,7 @@ impl Page {
         ensures { written result ≡ [] }
     {
         Page {
-            bytes: [0; 256],
+            bytes: [0; PAGE_BYTES],
             length: 0,
         }
     }
@@ -29,12 +32,12 @@ impl Page {
         ensures fits { result.length ≤ length result.bytes }
     {
         let at = self.length;
-        if at < 256 {
+        if at < PAGE_BYTES {
             self.bytes[at] = b;
             self.length = at + 1;
             return self;
         }
-        self.length = 256;
+        self.length = PAGE_BYTES;
         self
     }
 
@@ -43,8 +46,8 @@ impl Page {
     pub fn put_text(mut self, text: &[u8]) -> Page
         ensures { written result ≡ cut (written self ++ text.now) }
     {
-        let at = self.length.min(256);
-        let more = (256 - at).min(text.len());
+        let at = self.length.min(PAGE_BYTES);
+        let more = (PAGE_BYTES - at).min(text.len());
         self.bytes[at..at + more].copy_from_slice(&text[..more]);
         self.length = at + more;
         self
@@ -56,6 +59,6 @@ impl Page {
         ensures text { result.now ≡ written self.now }
         ensures fits { length result.now ≤ page_bytes }
     {
-        &self.bytes[..self.length.min(256)]
+        &self.bytes[..self.length.min(PAGE_BYTES)]
     }
 }
